@@ -1,0 +1,5 @@
+pub mod Singles
+pub mod Ranks
+pub mod Bits
+pub mod ByLane
+pub mod LaneLaws
