@@ -1,0 +1,6 @@
+pub mod FirstRecord
+pub mod Naming
+pub mod Counting
+pub mod Writing
+pub mod GateFiles
+pub mod Reading

@@ -1,0 +1,4 @@
+pub mod Gates
+pub mod Records
+pub mod Sheets
+pub mod Files
