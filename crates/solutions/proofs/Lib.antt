@@ -1,0 +1,9 @@
+pub mod Firsts
+pub mod Wanted
+pub mod OneRound
+pub mod Rows
+pub mod Rounds
+pub mod Counting
+pub mod Leasts
+pub mod Frames
+pub mod LaneFrames

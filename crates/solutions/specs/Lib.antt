@@ -1,0 +1,4 @@
+pub mod Solutions
+pub mod Rounds
+pub mod Runs
+pub mod Claims

@@ -1,0 +1,9 @@
+//! Small boards worked out by the definitions: the values of their frames, which frames are bad, and the numbers of rounds.
+ghost use Rattle.worked.specs.Worked.{Boards-worked};
+
+/// The table of worked boards stands.
+pub fn boards_worked() -> u8
+    ensures { λ _. ⌜ Boards-worked ⌝ }
+{
+    0
+}
