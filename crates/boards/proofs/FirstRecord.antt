@@ -7,14 +7,14 @@ use Prim.Native.Nat.{ℕ, zero, suc, _+_, _-_, _<_, _≤_}
 use native.Mathlib.Omega.{arith}
 use lib.Dec.{ltb, eqb}
 use lib.ListN.{length, getD, drop, take}
-use Rattle.std.proofs.shelf.Lists.{take-rest}
+use Rattle.std.proofs.shelf.Lists.{take-rest, append-nil}
 use Rattle.std.proofs.shelf.Tests.{lt-ltb, cases-bool, ltb-true, and-parts}
 use Rattle.std.proofs.shelf.Ways.{tells}
 use Rattle.std.specs.declared.option.Option.{Option}
 use Rattle.std.specs.declared.option.Option.the-variants.{Some, None}
 use Rattle.boards.specs.declared.gate.Gate.{Gate}
 use Rattle.boards.specs.declared.gate.Gate.the-variants.{Input, Zero, One, Copy, Not, And, Or, Implies, Xor, Register}
-use Rattle.boards.specs.Records.{record-of, arity, gate-of, first-record}
+use Rattle.boards.specs.Records.{record-of, arity, gate-of, first-record, alone, gate-in, Recorded}
 
 module _ (k : ℕ) (bs : List ℕ) (kind : ltb k 10 ≡ true) (head : getD bs 0 0 ≡ k) (long : arity k < length bs) where
   pub first-at : Some (gate-of k (getD bs 1 0) (getD bs 2 0), take (length bs - (1 + arity k)) (drop (1 + arity k) bs)) ≡ first-record bs
@@ -93,3 +93,24 @@ first-some (k ∷ u) g t e = ⊎-elim yes-case no-case (cases-bool test)
     no-case b =
         let none : _≡_ {A = Option (Gate × List ℕ)} None (Some (g, t)) = sym (ap (λ z. cond z (Some found) None) b) ∙ e in
         grind arith
+
+-- Bytes that are exactly one record are the record of the gate that is read.
+pub recorded : (bs : List ℕ) → Recorded bs (gate-in bs)
+recorded bs = go (first-record bs) refl
+  where
+    both : (g h : Gate) (t : List ℕ) → first-record bs ≡ Some (g, t) → bs ≡ record-of h → t ≡ []
+    both g h t e f =
+        let whole : first-record bs ≡ Some (h, []) = ap first-record (f ∙ sym (append-nil (record-of h))) ∙ first-of h [] in
+        let same : _≡_ {A = Option (Gate × List ℕ)} (Some (g, t)) (Some (h, [])) = sym e ∙ whole in
+        let pair : _≡_ {A = Gate × List ℕ} (g, t) (h, []) = cc in
+        ap (λ x. x .1) pair
+    go : (o : Option (Gate × List ℕ)) → first-record bs ≡ o → Recorded bs (alone o)
+    go None e = λ h f.
+        let whole : first-record bs ≡ Some (h, []) = ap first-record (f ∙ sym (append-nil (record-of h))) ∙ first-of h [] in
+        let none : _≡_ {A = Option (Gate × List ℕ)} None (Some (h, [])) = sym e ∙ whole in
+        grind arith
+    go (Some x) e = rest (x .0) (x .1) e
+      where
+        rest : (g : Gate) (t : List ℕ) → first-record bs ≡ Some (g, t) → Recorded bs (alone (Some (g, t)))
+        rest g [] f = first-some bs g [] f ∙ append-nil (record-of g)
+        rest g (b ∷ t) f = λ h k. let cut : _≡_ {A = List ℕ} (b ∷ t) [] = both g h (b ∷ t) f k in grind arith

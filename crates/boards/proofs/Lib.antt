@@ -4,3 +4,4 @@ pub mod Counting
 pub mod Writing
 pub mod GateFiles
 pub mod Reading
+pub mod Closing

@@ -1,7 +1,8 @@
 -- A record is one byte of kind, then a byte for each wire that it names.
 use mathlib.Core.Path.{_≡_}
-use mathlib.Core.Bool.{Bool, true, false, cond, _&&_}
-use mathlib.Core.List.{List, [], _∷_, _++_}
+use mathlib.Core.Logic.{_≢_}
+use mathlib.Core.Bool.{cond, _&&_}
+use mathlib.Core.List.{List, [], _∷_}
 use Prim.Native.Nat.{ℕ, _+_}
 use lib.Dec.{ltb, eqb}
 use lib.ListN.{length, getD, drop}
@@ -45,3 +46,8 @@ alone (Some x) = elim (x .1) [ [] ↦ Some (x .0) | _∷_ b bs ↦ None ]
 -- the gate of bytes that are exactly one record
 abbrev pub gate-in : List ℕ → Option Gate
 gate-in bs = alone (first-record bs)
+
+-- What the answer says of the bytes: they are the record of that gate, or of none.
+abbrev pub Recorded : List ℕ → Option Gate → Type 0
+Recorded bs None = (g : Gate) → bs ≢ record-of g
+Recorded bs (Some g) = bs ≡ record-of g

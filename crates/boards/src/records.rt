@@ -1,6 +1,6 @@
 ghost use mathlib.Core.Path.{_≡_};
 ghost use Rattle.std.specs.Options.{mapped};
-ghost use Rattle.boards.specs.Records.{first-record, gate-in};
+ghost use Rattle.boards.specs.Records.{first-record, gate-in, Recorded};
 use crate::gate::Gate;
 
 /// The record that the bytes begin with, and the bytes after it.
@@ -24,7 +24,8 @@ pub fn take_record(bytes: &[u8]) -> Option<(Gate, &[u8])>
 
 /// The gate of bytes that are exactly one record.
 pub fn read_record(bytes: &[u8]) -> Option<Gate>
-    ensures { λ r. ⌜ r ≡ gate-in (now (bytes .entry)) ⌝ }
+    ensures value { λ r. ⌜ r ≡ gate-in (now (bytes .entry)) ⌝ }
+    ensures law { λ r. ⌜ Recorded (now (bytes .entry)) r ⌝ }
 {
     match take_record(bytes)? {
         (gate, []) => Some(gate),

@@ -56,25 +56,25 @@ impl Board {
     pub fn inputs(&self) -> usize
         ensures { λ r. ⌜ r ≡ rank is-input (sheet (now (self .entry)) .gates) (length (sheet (now (self .entry)) .gates)) ⌝ }
     {
-        let mut count = 0;
+        let mut inputs = 0;
         for gate in self.gates.as_slice() {
             if gate.is_input() {
-                count += 1;
+                inputs += 1;
             }
         }
-        count
+        inputs
     }
 
     /// How many registers there are.
     pub fn registers(&self) -> usize
         ensures { λ r. ⌜ r ≡ rank is-register (sheet (now (self .entry)) .gates) (length (sheet (now (self .entry)) .gates)) ⌝ }
     {
-        let mut count = 0;
+        let mut registers = 0;
         for gate in self.gates.as_slice() {
             if gate.is_register() {
-                count += 1;
+                registers += 1;
             }
         }
-        count
+        registers
     }
 }

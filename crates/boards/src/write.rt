@@ -5,11 +5,13 @@ ghost use mathlib.Core.List.{_++_};
 ghost use lib.Dec.{leb};
 ghost use lib.ListN.{length, take, drop};
 ghost use Rattle.std.specs.Results.{isOk};
+ghost use Rattle.std.specs.Vec.{made};
+ghost use Rattle.std.specs.declared.option.Option.the-variants.{None};
 ghost use Rattle.std.specs.declared.result.Result.the-variants.{Ok, Err};
 ghost use Rattle.refusals.specs.declared.Refusal.the-variants.{Buffer};
 ghost use Rattle.boards.specs.Records.{record-of};
 ghost use Rattle.boards.specs.Sheets.{sheet};
-ghost use Rattle.boards.specs.Files.{file-of, written};
+ghost use Rattle.boards.specs.Files.{file-of, file-closing, written};
 use crate::board::Board;
 use crate::gate::Gate;
 use refusals::Refusal;
@@ -66,9 +68,12 @@ impl Board {
     }
 
     /// Writes the board's gate file at the buffer's start, and answers its length.
+    ///
+    /// Whoever reads what was written gets the same board, since it is the file of a sheet that is taken.
     pub fn write_file(&self, buffer: &mut [u8]) -> Result<usize, Refusal>
         ensures answer { λ r. ⌜ r ≡ cond (leb (length (file-of (sheet (now (self .entry))))) (length (now (buffer .entry)))) (Ok (length (file-of (sheet (now (self .entry)))))) (Err Buffer) ⌝ }
         ensures after { λ r. ⌜ now (buffer .exit) ≡ cond (isOk r) (written (file-of (sheet (now (self .entry)))) (now (buffer .entry))) (now (buffer .entry)) ⌝ }
+        ensures readable { λ r. ⌜ made r (λ n. (take n (now (buffer .exit)) ≡ file-of (sheet (now (self .entry)))) × (file-closing (sheet (now (self .entry))) ≡ None)) ⌝ }
     {
         let length = self.file_length();
         if buffer.len() < length {

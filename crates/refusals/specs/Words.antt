@@ -2,6 +2,8 @@
 use Prim.Native.Nat.{ℕ}
 use mathlib.Core.List.{List}
 use lib.Chars.{codes}
+use Rattle.refusals.specs.declared.Failure.{Failure}
+use Rattle.refusals.specs.declared.Failure.the-variants.{Refused, Memory}
 use Rattle.refusals.specs.declared.Refusal.{Refusal}
 use Rattle.refusals.specs.declared.Refusal.the-variants.{Record, Depth, Wire, Literal, Valuation, Buffer, Text, Stage, Full, Number, Absent, Slack, Loose, Space, Fails}
 
@@ -21,3 +23,7 @@ words Slack = codes "a hint neither conflicts nor forces one literal"
 words Loose = codes "the hints end without a conflict"
 words Space = codes "the shelf has no room for the line"
 words Fails = codes "some clause has no true literal"
+
+abbrev pub failure-words : Failure → List ℕ
+failure-words (Refused e) = words e
+failure-words Memory = codes "there is no memory for it"

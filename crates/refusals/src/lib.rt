@@ -2,7 +2,11 @@
 ghost use mathlib.Core.Path.{_≡_};
 ghost use Rattle.std.specs.declared.option.Option.the-variants.{Some};
 ghost use Rattle.refusals.specs.Numbers.{number as numberOf};
-ghost use Rattle.refusals.specs.Words.{words as wordsOf};
+ghost use Rattle.refusals.specs.Words.{words as wordsOf, failure-words};
+ghost use Rattle.refusals.specs.declared.Failure.the-variants.{Refused as RefusedBy, Memory};
+use std::alloc::AllocError;
+use std::alloc::Refused;
+use std::error::Error;
 use std::fmt;
 
 /// Why a call was refused. A refused call leaves everything as it was.
@@ -97,3 +101,59 @@ pub impl fmt::Display for Refusal as RefusalDisplay {
         f.write_str(self.words())
     }
 }
+
+pub impl Error for Refusal as RefusalError {}
+
+/// Why a call that allocates did not succeed.
+#[derive(Clone, Copy, PartialEq, Eq, Debug)]
+pub enum Failure {
+    Refused(Refusal),
+    /// There was no memory for it.
+    Memory,
+}
+
+impl Failure {
+    /// What failed, in words.
+    pub fn words(self) -> &'static str
+        ensures { λ r. ⌜ now r ≡ failure-words self ⌝ }
+    {
+        match self {
+            Failure::Refused(refusal) => refusal.words(),
+            Failure::Memory => "there is no memory for it",
+        }
+    }
+}
+
+pub impl From<Refusal> for Failure as FailureFromRefusal {
+    ghost converts = { λ e r. r ≡ RefusedBy e };
+
+    fn from(refusal: Refusal) -> Failure {
+        Failure::Refused(refusal)
+    }
+}
+
+pub impl From<AllocError> for Failure as FailureFromAlloc {
+    ghost converts = { λ _ r. r ≡ Memory };
+
+    fn from(_error: AllocError) -> Failure {
+        Failure::Memory
+    }
+}
+
+pub impl<T: Drop> From<Refused<T>> for Failure as FailureFromRefused {
+    ghost converts = { λ _ r. r ≡ Memory };
+
+    fn from(_error: Refused<T>) -> Failure {
+        Failure::Memory
+    }
+}
+
+pub impl fmt::Display for Failure as FailureDisplay {
+    ghost shown = { λ x. Some (failure-words x) };
+
+    fn fmt<W: fmt::Write>(&self, f: &mut fmt::Formatter<W>) -> fmt::Result {
+        f.write_str(self.words())
+    }
+}
+
+pub impl Error for Failure as FailureError {}

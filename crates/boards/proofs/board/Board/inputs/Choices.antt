@@ -6,4 +6,4 @@ use Rattle.boards.specs.Gates.{is-input}
 use Rattle.boards.proofs.board.Board.inputs.Given as given
 
 abbrev pub Inv-loop-gate : given.InvT-loop-gate
-Inv-loop-gate l = (l .count ≡ countBy is-input (take (l .gate-index) (l .gate-items))) × (l .count ≤ l .gate-index)
+Inv-loop-gate l = (l .inputs ≡ countBy is-input (take (l .gate-index) (l .gate-items))) × (l .inputs ≤ l .gate-index)

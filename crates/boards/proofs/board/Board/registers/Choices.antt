@@ -6,4 +6,4 @@ use Rattle.boards.specs.Gates.{is-register}
 use Rattle.boards.proofs.board.Board.registers.Given as given
 
 abbrev pub Inv-loop-gate : given.InvT-loop-gate
-Inv-loop-gate l = (l .count ≡ countBy is-register (take (l .gate-index) (l .gate-items))) × (l .count ≤ l .gate-index)
+Inv-loop-gate l = (l .registers ≡ countBy is-register (take (l .gate-index) (l .gate-items))) × (l .registers ≤ l .gate-index)

@@ -9,6 +9,8 @@ use Rattle.std.proofs.shelf.Ways.{tells}
 use Rattle.boards.specs.Sheets.{sheet, sheet-of}
 use Rattle.boards.specs.Files.{file-of, written}
 use Rattle.boards.specs.Records.{record-of}
+use Rattle.std.proofs.shelf.Lists.{take-at}
+use Rattle.boards.proofs.Closing.{board-closes}
 use Rattle.boards.proofs.GateFiles.{file-length, records-all, turn-fits, write-turn, write-end}
 use Rattle.boards.proofs.board.Board.write_file.Needs as need
 
@@ -47,4 +49,9 @@ returns c =
     let same = ap (λ gs. sheet-of gs (board .property) (board .depth)) (c .as-slice-gate-items .ensures .value) in
     let end = write-end (c .as-slice-gate-items .result .now) (c .args .buffer .now) (c .loop-gate .buffer) (c .loop-gate .at) (c .loop-gate .gate-index)
     (c .loop-gate .inv .0) (c .loop-gate .inv .1) (c .loop-gate-test .left) (board .property) (board .depth) (c .put-2 .last .buffer) (c .put-2 .ensures) in
-    record { answer = grind (arith, tells); after = end ∙ ap (λ s. written (file-of s) (c .args .buffer .now)) same }
+    let after = end ∙ ap (λ s. written (file-of s) (c .args .buffer .now)) same in
+    record {
+      answer = grind (arith, tells);
+      after = after;
+      readable = (ap (take (c .file-length-length .result)) after ∙ take-at (file-of (sheet board)) _ (c .file-length-length .result) (sym (c .file-length-length .ensures)), board-closes board);
+    }
