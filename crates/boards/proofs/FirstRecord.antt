@@ -104,6 +104,7 @@ recorded bs = go (first-record bs) refl
         let same : _≡_ {A = Option (Gate × List ℕ)} (Some (g, t)) (Some (h, [])) = sym e ∙ whole in
         let pair : _≡_ {A = Gate × List ℕ} (g, t) (h, []) = cc in
         ap (λ x. x .1) pair
+
     go : (o : Option (Gate × List ℕ)) → first-record bs ≡ o → Recorded bs (alone o)
     go None e = λ h f.
         let whole : first-record bs ≡ Some (h, []) = ap first-record (f ∙ sym (append-nil (record-of h))) ∙ first-of h [] in

@@ -1,4 +1,3 @@
 pub mod Gates
 pub mod Records
 pub mod Sheets
-pub mod Files

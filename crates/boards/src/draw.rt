@@ -45,7 +45,7 @@ impl Drawing {
     }
 
     /// Adds a wire, and answers whether there was room for it.
-    pub(crate) fn add_gate(&mut self, gate: Gate) -> bool
+    pub fn add_gate(&mut self, gate: Gate) -> bool
         ensures answer { λ r. ⌜ r ≡ ltb (length (drawn (now (self .entry)))) 256 ⌝ }
         ensures after { λ r. ⌜ drawn (now (self .exit)) ≡ cond r (drawn (now (self .entry)) ++ gate ∷ []) (drawn (now (self .entry))) ⌝ }
     {
@@ -54,5 +54,12 @@ impl Drawing {
         }
         self.gates.push_reserved(gate);
         true
+    }
+
+    /// Takes all wires away.
+    pub fn clear(&mut self)
+        ensures { λ _. ⌜ drawn (now (self .exit)) ≡ [] ⌝ }
+    {
+        self.gates.clear();
     }
 }

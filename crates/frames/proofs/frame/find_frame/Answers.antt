@@ -4,7 +4,7 @@ use native.Mathlib.Omega.{arith}
 use lib.ListN.{length}
 use Rattle.std.specs.Options.{mapped}
 use Rattle.std.specs.Of.Vec.{vec-items}
-use Rattle.boards.specs.Gates.{named}
+use Rattle.boards.proofs.Closed.{board-own}
 use Rattle.solutions.specs.Rounds.{frame-rounds, frame-row}
 use Rattle.frames.specs.Frames.{frame-given, long-before}
 use Rattle.frames.proofs.Found.{suffice, past, found-answer, found-bound, found-row, found-least}
@@ -19,7 +19,7 @@ returns g c =
     let inputs = c .args .inputs .now in
     let before = mapped (λ r. r .now) (c .args .before) in
     let row = c .args .row .now in
-    let own : named (length gs) gs ≡ true = ap (λ n. named n gs) (sym (board .gates .ok .0)) ∙ board .«own_wires» in
+    let own = board-own board in
     let long : long-before (length gs) before ≡ true = ap (λ n. long-before n before) (sym (c .wires-wires .ensures)) ∙ sym (c .is-long .ensures) ∙ c .if-not-is-long .left in
     let fits = suffice gs inputs before row (omega arith) long (omega arith) in
     let rest = past (length gs) (c .wires-wires .result) row (c .wires-wires .ensures) in
