@@ -3,6 +3,7 @@ ghost use mathlib.Core.Bool.{not, true};
 ghost use Prim.Native.Nat.{_≤_};
 ghost use lib.ListN.{length, replicate};
 ghost use Rattle.std.specs.Options.{mapped};
+ghost use Rattle.std.specs.declared.option.Option.the-variants.{None};
 ghost use Rattle.std.specs.Vec.{made};
 ghost use Rattle.boards.specs.Gates.{named};
 ghost use Rattle.boards.specs.Sheets.{sheet};
@@ -120,10 +121,17 @@ fn is_long<V: ValueKind>(before: Option<&[V]>, wires: usize) -> bool
     }
 }
 
+/// No frame before: what the first frame is found from.
+pub fn no_frame<'a, V>() -> Option<&'a [V]>
+    ensures { λ r. ⌜ r ≡ None ⌝ }
+{
+    Option::None
+}
+
 /// Fills the row's start with the values of one frame, the least solution of the board's wires, and answers how many
 /// rounds it took, the last one, which changes nothing, counted.
 ///
-/// `inputs` has a value for each input, in rising wire order; `before` is the frame before, none for the first. A buffer
+/// `inputs` has a value for each input, in rising wire order; `before` is the frame before, `no_frame()` for the first. A buffer
 /// that is shorter than needed is refused, and the row is then as it was.
 pub fn find_frame<V: ValueKind>(
     board: &Board,

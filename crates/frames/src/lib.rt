@@ -2,3 +2,4 @@
 pub mod frame;
 
 pub use frame::find_frame;
+pub use frame::no_frame;
