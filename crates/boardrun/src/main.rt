@@ -1,10 +1,9 @@
 // Reads board.bin and rows.bin from the folder it is started in, and prints the frames of that run up to the first bad one.
 use boards::Board;
 use boards::Drawing;
+use gatefiles::read_file;
 use refusals::Failure;
-use refusals::FailureError;
 use refusals::Refusal;
-use refusals::RefusalError;
 use runs::Trace;
 use runs::text::tell_board;
 use runs::text::tell_frame;
@@ -31,7 +30,7 @@ fn read_or_empty(rt: &LibcRuntime, name: &str) -> Result<Vec<u8>, AnyError> {
 fn refuse(rt: &LibcRuntime, refusal: Refusal) -> Result<(), AnyError> {
     let number = refusal.number();
     println!(rt, "refused {number}")?;
-    Err(refusal.into())
+    Err(refusal.words().into())
 }
 
 fn show(rt: &LibcRuntime, board: &Board, trace: &Trace) -> Result<(), AnyError> {
@@ -51,7 +50,7 @@ fn show(rt: &LibcRuntime, board: &Board, trace: &Trace) -> Result<(), AnyError> 
 fn run(rt: &LibcRuntime) -> Result<(), AnyError> {
     let heap = rt.alloc();
     let file = read_or_empty(rt, "board.bin")?;
-    let board = match Drawing::new(heap)?.read_file(file.as_slice()) {
+    let board = match read_file(Drawing::new(heap)?, file.as_slice()) {
         Ok(board) => board,
         Err(unclosed) => return refuse(rt, unclosed.refusal),
     };
@@ -60,7 +59,7 @@ fn run(rt: &LibcRuntime) -> Result<(), AnyError> {
     match trace(heap, &board, rows.as_slice()) {
         Ok(trace) => show(rt, &board, &trace),
         Err(Failure::Refused(refusal)) => refuse(rt, refusal),
-        Err(failure) => Err(failure.into()),
+        Err(failure) => Err(failure.words().into()),
     }
 }
 

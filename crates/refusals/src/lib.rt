@@ -22,7 +22,7 @@ pub enum Refusal {
     Wire,
     /// A literal that is 0 or names no variable.
     Literal,
-    /// A valuation that is not one byte of 0 or 1 for each variable.
+    /// A valuation, or rows of inputs, that are not exactly one byte of 0 or 1 for each variable or input.
     Valuation,
     /// Any other buffer that is shorter than needed.
     Buffer,
@@ -79,7 +79,7 @@ impl Refusal {
             Refusal::Depth => "the depth is not 1 to 8",
             Refusal::Wire => "the property or a named wire is not below the number of wires",
             Refusal::Literal => "a literal is 0 or names no variable",
-            Refusal::Valuation => "not one byte of 0 or 1 for each variable",
+            Refusal::Valuation => "not exactly one byte of 0 or 1 for each variable or input",
             Refusal::Buffer => "a buffer is shorter than needed",
             Refusal::Text => "the text does not begin with one proof line",
             Refusal::Stage => "the stage does not take this call",

@@ -1,0 +1,6 @@
+mod Faulty
+mod Telling
+mod Cutting
+mod Reading
+mod Running
+mod Turning

@@ -44,6 +44,10 @@ Judged gs p rows (Bad frame wire) =
     Bad-at gs p rows frame × ((j : ℕ) → j < frame → Bad-at gs p rows j → ⊥) × ((f : ℕ → Value) → Frame gs rows frame f → Fault (length gs) p f wire)
 Judged gs p rows (Good frames) = (frames ≡ length rows) × ((j : ℕ) → Bad-at gs p rows j → ⊥)
 
+-- The trace has the run's frames up to the first bad one, and what was found.
+abbrev pub Found : Sheet → List (List Bool) → Trace → Type 0
+Found s rows t = Holds-frames (s .gates) rows (vec-items (t .values)) (frames-of (t .verdict)) × Judged (s .gates) (s .property) rows (t .verdict)
+
 -- What tracing a board over bytes answers: the trace of the run whose rows they are; refused where they are the rows of no run.
 abbrev pub Traced : Sheet → List ℕ → Result Trace Failure → Type 0
 Traced s bytes (Ok t) =

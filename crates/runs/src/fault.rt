@@ -16,8 +16,11 @@ pub fn find_fault(frame: &[Value], property: usize) -> Option<usize>
             return Some(wire);
         }
     }
-    match frame.get(property) {
-        Some(Value::One) => None,
+    if property >= frame.len() {
+        return Some(property);
+    }
+    match frame[property] {
+        Value::One => None,
         _ => Some(property),
     }
 }
