@@ -3,7 +3,7 @@ use mathlib.Core.Path.{_≡_}
 use mathlib.Core.Logic.{_⊎_, _≢_}
 use Prim.Native.Nat.{ℕ, _<_}
 use Rattle.values.specs.declared.single.Value.{Value}
-use Rattle.values.specs.declared.single.Value.the-variants.{Undefined, Zero, One}
+use Rattle.values.specs.declared.single.Value.the-variants.{Undefined, One}
 
 -- Every wire of the frame f, of n wires, is defined.
 abbrev pub Defined : ℕ → (ℕ → Value) → Type 0

@@ -9,7 +9,6 @@ use Rattle.std.specs.declared.result.Result.{Result}
 use Rattle.std.specs.declared.result.Result.the-variants.{Ok, Err}
 use Rattle.refusals.specs.declared.Failure.{Failure}
 use Rattle.refusals.specs.declared.Failure.the-variants.{Refused, Memory}
-use Rattle.refusals.specs.declared.Refusal.{Refusal}
 use Rattle.refusals.specs.declared.Refusal.the-variants as refusal
 use Rattle.values.specs.Single.{single}
 use Rattle.values.specs.declared.single.Value.{Value}
@@ -50,8 +49,6 @@ Found s rows t = Holds-frames (s .gates) rows (vec-items (t .values)) (frames-of
 
 -- What tracing a board over bytes answers: the trace of the run whose rows they are; refused where they are the rows of no run.
 abbrev pub Traced : Sheet → List ℕ → Result Trace Failure → Type 0
-Traced s bytes (Ok t) =
-    (rows : List (List Bool)) × Rows (s .gates) (s .depth) bytes rows
-    × Holds-frames (s .gates) rows (vec-items (t .values)) (frames-of (t .verdict)) × Judged (s .gates) (s .property) rows (t .verdict)
+Traced s bytes (Ok t) = (rows : List (List Bool)) × Rows (s .gates) (s .depth) bytes rows × Found s rows t
 Traced s bytes (Err (Refused e)) = (e ≡ refusal.Valuation) × ((rows : List (List Bool)) → Rows (s .gates) (s .depth) bytes rows → ⊥)
 Traced s bytes (Err Memory) = Unit {0}
