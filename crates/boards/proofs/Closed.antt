@@ -10,7 +10,7 @@ use Rattle.std.specs.declared.option.Option.the-variants.{Some, None}
 use Rattle.std.proofs.shelf.Tests.{and-from, lt-ltb, le-leb}
 use Rattle.refusals.specs.declared.Refusal.the-variants as refusal
 use Rattle.boards.specs.declared.board.Board.{Board}
-use Rattle.boards.specs.Gates.{named}
+use Rattle.gates.specs.Gates.{named}
 use Rattle.boards.specs.Sheets.{sheet, closing}
 
 pub board-few : (b : Board) → length (vec-items (b .gates)) ≤ 256

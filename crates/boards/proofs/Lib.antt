@@ -1,4 +1,2 @@
-pub mod FirstRecord
 pub mod Naming
-pub mod Counting
 pub mod Closed

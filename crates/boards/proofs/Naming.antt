@@ -5,9 +5,9 @@ use mathlib.Core.List.{List}
 use Prim.Native.Nat.{ℕ, _+_, _<_, _≤_}
 use lib.ListN.{length, getD, drop}
 use Rattle.std.proofs.shelf.Lists.{at-drop-more, at-drop-all}
-use Rattle.boards.specs.declared.gate.Gate.{Gate}
-use Rattle.boards.specs.declared.gate.Gate.the-variants.{Input}
-use Rattle.boards.specs.Gates.{wires, all-below, named}
+use Rattle.gates.specs.declared.gate.Gate.{Gate}
+use Rattle.gates.specs.declared.gate.Gate.the-variants.{Input}
+use Rattle.gates.specs.Gates.{wires, all-below, named}
 
 pub named-turn : (n : ℕ) (gs : List Gate) (i : ℕ) → i < length gs → named n (drop i gs) ≡ (all-below n (wires (getD gs i Input)) && named n (drop (i + 1) gs))
 named-turn n gs i h = at-drop-more (named n) gs i Input h

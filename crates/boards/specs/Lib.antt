@@ -1,3 +1,1 @@
-pub mod Gates
-pub mod Records
 pub mod Sheets

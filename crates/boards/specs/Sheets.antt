@@ -12,11 +12,11 @@ use Rattle.std.specs.declared.result.Result.{Result}
 use Rattle.std.specs.declared.result.Result.the-variants.{Ok, Err}
 use Rattle.refusals.specs.declared.Refusal.{Refusal}
 use Rattle.refusals.specs.declared.Refusal.the-variants as refusal
-use Rattle.boards.specs.declared.gate.Gate.{Gate}
+use Rattle.gates.specs.declared.gate.Gate.{Gate}
 use Rattle.boards.specs.declared.board.Board.{Board}
 use Rattle.boards.specs.declared.drawing.Drawing.{Drawing}
-use Rattle.boards.specs.Gates.{named}
-use Rattle.boards.specs.Records.{gate-in}
+use Rattle.gates.specs.Gates.{named}
+use Rattle.gates.specs.Records.{gate-in}
 
 -- the gates of the wires, in wire order, the property wire and the depth
 pub record Sheet : Type 0 where

@@ -2,8 +2,8 @@ ghost use Prim.Native.Nat.{_<_, _≤_};
 ghost use mathlib.Core.Path.{_≡_};
 ghost use mathlib.Core.Bool.{true};
 ghost use Rattle.std.specs.Of.Vec.{vec-items, vec-len};
-ghost use Rattle.boards.specs.Gates.{named};
-use crate::gate::Gate;
+ghost use Rattle.gates.specs.Gates.{named};
+use gates::Gate;
 
 /// A closed board: its wires, the property wire and the depth.
 ///

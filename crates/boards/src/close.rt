@@ -2,11 +2,11 @@ ghost use mathlib.Core.Path.{_≡_};
 ghost use mathlib.Core.List.{List};
 ghost use Rattle.std.specs.Results.{Cases};
 ghost use Rattle.std.specs.declared.option.Option.the-variants.{Some, None};
-ghost use Rattle.boards.specs.Gates.{all-below, wires as wiresOf, named};
+ghost use Rattle.gates.specs.Gates.{all-below, wires as wiresOf, named};
 ghost use Rattle.boards.specs.Sheets.{drawn, sheet, sheet-of, closing};
 use crate::board::Board;
 use crate::drawing::Drawing;
-use crate::gate::Gate;
+use gates::Gate;
 use refusals::Refusal;
 
 /// The largest depth that a board may have.
@@ -17,21 +17,6 @@ pub const MOST_DEPTH: u8 = 8;
 pub struct Unclosed {
     pub drawing: Drawing,
     pub refusal: Refusal,
-}
-
-impl Gate {
-    /// Whether every wire that the gate names is below `wires`.
-    pub fn names_below(self, wires: usize) -> bool
-        ensures { λ r. ⌜ r ≡ all-below wires (wiresOf self) ⌝ }
-    {
-        match self {
-            Gate::Input | Gate::Zero | Gate::One => true,
-            Gate::Copy(y) | Gate::Not(y) | Gate::Register(y) => (y as usize) < wires,
-            Gate::And(y, z) | Gate::Or(y, z) | Gate::Implies(y, z) | Gate::Xor(y, z) => {
-                (y as usize) < wires && (z as usize) < wires
-            }
-        }
-    }
 }
 
 fn all_name_below(gates: &[Gate], wires: usize) -> bool

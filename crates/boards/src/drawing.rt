@@ -1,6 +1,6 @@
 ghost use Prim.Native.Nat.{_≤_};
 ghost use Rattle.std.specs.Of.Vec.{vec-cap, vec-len};
-use crate::gate::Gate;
+use gates::Gate;
 
 /// A board under drawing: the wires so far, with room for all that a board may have.
 ///

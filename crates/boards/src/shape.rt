@@ -1,29 +1,9 @@
 ghost use mathlib.Core.Path.{_≡_};
 ghost use lib.ListN.{length};
-ghost use Rattle.boards.specs.Gates.{is-input, is-register, rank};
+ghost use Rattle.gates.specs.Gates.{is-input, is-register, rank};
 ghost use Rattle.boards.specs.Sheets.{sheet};
 use crate::board::Board;
-use crate::gate::Gate;
-
-impl Gate {
-    pub fn is_input(self) -> bool
-        ensures { λ r. ⌜ r ≡ is-input self ⌝ }
-    {
-        match self {
-            Gate::Input => true,
-            _ => false,
-        }
-    }
-
-    pub fn is_register(self) -> bool
-        ensures { λ r. ⌜ r ≡ is-register self ⌝ }
-    {
-        match self {
-            Gate::Register(_) => true,
-            _ => false,
-        }
-    }
-}
+use gates::Gate;
 
 impl Board {
     /// How many wires there are.

@@ -3,14 +3,14 @@
 mod tests {
     use boards::Board;
     use boards::Drawing;
-    use boards::Gate;
-    use boards::gate::GateDebug;
-    use boards::gate::GatePartialEq;
-    use boards::records::read_record;
     use frames::find_frame;
     use frames::no_frame;
     use gatefiles::read_file;
     use gatefiles::write_file;
+    use gates::Gate;
+    use gates::gate::GateDebug;
+    use gates::gate::GatePartialEq;
+    use gates::records::read_record;
     use refusals::Failure;
     use refusals::FailureDebug;
     use refusals::FailureFromAlloc;
@@ -29,7 +29,28 @@ mod tests {
     use values::single::ValuePartialEq;
 
     const RING: [u8; 22] = [
-        0, 0, 4, 1, 6, 2, 5, 5, 0, 3, 5, 1, 7, 4, 0, 6, 6, 4, 2, 15, 8, 1,
+        0,
+        0,
+        4,
+        1,
+        6,
+        2,
+        5,
+        5,
+        0,
+        3,
+        5,
+        1,
+        7,
+        4,
+        0,
+        6,
+        6,
+        4,
+        2,
+        15,
+        8,
+        1,
     ];
 
     fn board_of(heap: Global, file: &[u8]) -> Result<Board, Failure> {
@@ -115,8 +136,14 @@ mod tests {
     fn files_hold_256_records(rt: LibcRuntime) -> Result<(), Fail> {
         let heap = rt.alloc();
         check_eq(why_not(heap, &repeated(heap, 256, 255, 8)?)?, None)?;
-        check_eq(why_not(heap, &repeated(heap, 257, 0, 1)?)?, Some(Refusal::Full))?;
-        check_eq(why_not(heap, &repeated(heap, 257, 0, 9)?)?, Some(Refusal::Full))
+        check_eq(
+            why_not(heap, &repeated(heap, 257, 0, 1)?)?,
+            Some(Refusal::Full),
+        )?;
+        check_eq(
+            why_not(heap, &repeated(heap, 257, 0, 9)?)?,
+            Some(Refusal::Full),
+        )
     }
 
     #[test]
@@ -148,7 +175,10 @@ mod tests {
     fn the_ring_settles_or_not(rt: LibcRuntime) -> Result<(), Fail> {
         let board = board_of(rt.alloc(), &RING)?;
         let mut row = [Value::One; 10];
-        check_eq(find_frame(&board, &[Value::One], no_frame(), &mut row), Err(Refusal::Buffer))?;
+        check_eq(
+            find_frame(&board, &[Value::One], no_frame(), &mut row),
+            Err(Refusal::Buffer),
+        )?;
         check(row == [Value::One; 10])?;
         let inputs = [Value::One, Value::Zero];
         check(find_frame(&board, &inputs, no_frame(), &mut row).is_ok())?;
@@ -186,7 +216,10 @@ mod tests {
         let mut second = [Value::Undefined; 2];
         find_frame(&toggle, &[], no_frame(), &mut first)?;
         check(first == [Value::Zero, Value::One])?;
-        check_eq(find_frame(&toggle, &[], Some(&first[0..1]), &mut second), Err(Refusal::Buffer))?;
+        check_eq(
+            find_frame(&toggle, &[], Some(&first[0..1]), &mut second),
+            Err(Refusal::Buffer),
+        )?;
         find_frame(&toggle, &[], Some(&first), &mut second)?;
         check(second == [Value::One, Value::Zero])
     }

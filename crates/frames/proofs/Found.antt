@@ -13,7 +13,7 @@ use Rattle.std.specs.declared.option.Option.{Option}
 use Rattle.std.specs.declared.result.Result.the-variants.{Ok, Err}
 use Rattle.refusals.specs.declared.Refusal.the-variants.{Buffer}
 use Rattle.values.specs.Kinds.{Kind, Lawful}
-use Rattle.boards.specs.declared.gate.Gate.{Gate}
+use Rattle.gates.specs.declared.gate.Gate.{Gate}
 use Rattle.solutions.specs.Solutions.{reads, Least}
 use Rattle.solutions.specs.Rounds.{most-rounds, frame-rounds, frame-row}
 use Rattle.solutions.specs.Runs.{input-count}

@@ -8,8 +8,8 @@ use lib.ListN.{length, getD, set}
 use Rattle.std.specs.declared.option.Option.{Option}
 use Rattle.std.proofs.shelf.Bits.{mul-le}
 use Rattle.values.specs.Kinds.{Kind, Lawful}
-use Rattle.boards.specs.declared.gate.Gate.{Gate}
-use Rattle.boards.specs.Gates.{is-input, rank}
+use Rattle.gates.specs.declared.gate.Gate.{Gate}
+use Rattle.gates.specs.Gates.{is-input, rank}
 use Rattle.solutions.specs.Solutions.{gate-at, reads, wanted, supplied, frame-before}
 use Rattle.solutions.specs.Rounds.{round, same-row, most-rounds}
 use Rattle.solutions.proofs.OneRound.{want, round-more}

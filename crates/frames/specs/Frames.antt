@@ -11,7 +11,7 @@ use Rattle.std.specs.declared.result.Result.the-variants.{Ok, Err}
 use Rattle.refusals.specs.declared.Refusal.{Refusal}
 use Rattle.refusals.specs.declared.Refusal.the-variants.{Buffer}
 use Rattle.values.specs.Kinds.{Kind}
-use Rattle.boards.specs.declared.gate.Gate.{Gate}
+use Rattle.gates.specs.declared.gate.Gate.{Gate}
 use Rattle.solutions.specs.Solutions.{given, frame-before}
 use Rattle.solutions.specs.Rounds.{frame-rounds, frame-row}
 use Rattle.solutions.specs.Runs.{input-count}

@@ -5,13 +5,13 @@ ghost use lib.ListN.{length, replicate};
 ghost use Rattle.std.specs.Options.{mapped};
 ghost use Rattle.std.specs.declared.option.Option.the-variants.{None};
 ghost use Rattle.std.specs.Vec.{made};
-ghost use Rattle.boards.specs.Gates.{named};
+ghost use Rattle.gates.specs.Gates.{named};
 ghost use Rattle.boards.specs.Sheets.{sheet};
 ghost use Rattle.solutions.specs.Solutions.{reads, wanted as wantedOf, supplied, frame-before, Least};
 ghost use Rattle.solutions.specs.Rounds.{round, same-row, most-rounds, frame-rounds, frame-row};
 ghost use Rattle.frames.specs.Frames.{frame-given, long-before, frame-answer, row-after};
 use boards::Board;
-use boards::Gate;
+use gates::Gate;
 use refusals::Refusal;
 use values::ValueKind;
 

@@ -7,14 +7,14 @@ use native.Mathlib.Omega.{arith}
 use lib.ListN.{length, take, drop, getD}
 use Rattle.std.specs.Joined.{joined}
 use Rattle.std.proofs.shelf.Lists.{joined-more, take-more, take-all, length-append, take-append-drop, append-assoc}
-use Rattle.boards.specs.declared.gate.Gate.{Gate}
-use Rattle.boards.specs.declared.gate.Gate.the-variants.{Input}
+use Rattle.gates.specs.declared.gate.Gate.{Gate}
+use Rattle.gates.specs.declared.gate.Gate.the-variants.{Input}
 use Rattle.std.specs.declared.option.Option.the-variants.{Some, None}
 use Rattle.std.proofs.shelf.Tests.{le-leb}
 use Rattle.refusals.specs.declared.Refusal.the-variants as refusal
 use Rattle.boards.specs.declared.board.Board.{Board}
 use Rattle.boards.proofs.Closed.{board-few, board-closes}
-use Rattle.boards.specs.Records.{record-of}
+use Rattle.gates.specs.Records.{record-of}
 use Rattle.boards.specs.Sheets.{Sheet, sheet, sheet-of, closing}
 use Rattle.gatefiles.specs.Files.{ending, file-of, file-closing}
 use Rattle.gatefiles.proofs.Writing.{put-more}

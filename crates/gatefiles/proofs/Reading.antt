@@ -14,9 +14,9 @@ use Rattle.std.proofs.shelf.Tests.{ltb-true, ltb-false, lt-ltb, le-ltb, le-leb,
 use Rattle.std.proofs.shelf.Ways.{tells}
 use Rattle.std.specs.declared.option.Option.{Option}
 use Rattle.std.specs.declared.option.Option.the-variants.{Some, None}
-use Rattle.boards.specs.declared.gate.Gate.{Gate}
+use Rattle.gates.specs.declared.gate.Gate.{Gate}
 use Rattle.refusals.specs.declared.Refusal.the-variants as refusal
-use Rattle.boards.specs.Records.{record-of, first-record}
+use Rattle.gates.specs.Records.{record-of, first-record}
 use Rattle.std.specs.Results.{Cases}
 use Rattle.std.specs.declared.result.Result.{Result}
 use Rattle.std.specs.declared.result.Result.the-variants.{Ok, Err}
@@ -25,7 +25,7 @@ use Rattle.boards.specs.declared.board.Board.{Board}
 use Rattle.boards.specs.declared.close.Unclosed.{Unclosed}
 use Rattle.boards.specs.Sheets.{Sheet, sheet, sheet-of, drawn as drawn-of, closing}
 use Rattle.gatefiles.specs.Files.{ending, file-of, file-closing, Misread, Unread, Read, Reread}
-use Rattle.boards.proofs.FirstRecord.{first-of, first-some}
+use Rattle.gates.proofs.FirstRecord.{first-of, first-some}
 use Rattle.gatefiles.proofs.GateFiles.{joined-append}
 
 pub three : (bs : List ℕ) → length bs ≡ 3 → getD bs 0 0 ≡ 15 → bs ≡ ending (getD bs 1 0) (getD bs 2 0)

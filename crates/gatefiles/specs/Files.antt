@@ -13,10 +13,10 @@ use Rattle.std.specs.declared.result.Result.{Result}
 use Rattle.std.specs.declared.result.Result.the-variants.{Ok, Err}
 use Rattle.refusals.specs.declared.Refusal.{Refusal}
 use Rattle.refusals.specs.declared.Refusal.the-variants as refusal
-use Rattle.boards.specs.declared.gate.Gate.{Gate}
+use Rattle.gates.specs.declared.gate.Gate.{Gate}
 use Rattle.boards.specs.declared.board.Board.{Board}
 use Rattle.boards.specs.declared.close.Unclosed.{Unclosed}
-use Rattle.boards.specs.Records.{record-of}
+use Rattle.gates.specs.Records.{record-of}
 use Rattle.boards.specs.Sheets.{Sheet, sheet, drawn, closing}
 
 abbrev pub ending : ℕ → ℕ → List ℕ

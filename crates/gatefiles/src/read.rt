@@ -12,7 +12,7 @@ use crate::write::ENDING;
 use boards::Board;
 use boards::Drawing;
 use boards::Unclosed;
-use boards::records::take_record;
+use gates::records::take_record;
 use refusals::Refusal;
 
 /// What stands behind the records of a gate file.

@@ -9,11 +9,11 @@ ghost use Rattle.std.specs.Vec.{made};
 ghost use Rattle.std.specs.declared.option.Option.the-variants.{None};
 ghost use Rattle.std.specs.declared.result.Result.the-variants.{Ok, Err};
 ghost use Rattle.refusals.specs.declared.Refusal.the-variants.{Buffer};
-ghost use Rattle.boards.specs.Records.{record-of};
+ghost use Rattle.gates.specs.Records.{record-of};
 ghost use Rattle.boards.specs.Sheets.{sheet};
 ghost use Rattle.gatefiles.specs.Files.{file-of, file-closing, written};
 use boards::Board;
-use boards::Gate;
+use gates::Gate;
 use refusals::Refusal;
 
 /// The bytes of one record, from the start of the three.

@@ -11,7 +11,7 @@ use Rattle.std.proofs.shelf.Lists.{take-more, take-all, map-append, getD-map, l
 use Rattle.refusals.specs.declared.Failure.{Failure}
 use Rattle.refusals.specs.declared.Failure.the-variants.{Refused, Memory}
 use Rattle.values.specs.declared.single.Value.{Value}
-use Rattle.boards.specs.declared.gate.Gate.{Gate}
+use Rattle.gates.specs.declared.gate.Gate.{Gate}
 use Rattle.solutions.specs.Runs.{bit, input-count}
 use Rattle.runs.specs.Rows.{byte, Rows}
 use Rattle.runs.specs.Inputs.{Not-read, Bits, Values-of, Rows-read, Counts}

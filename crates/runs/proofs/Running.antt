@@ -17,8 +17,8 @@ use Rattle.values.specs.declared.single.Value.{Value}
 use Rattle.values.specs.declared.single.Value.the-variants.{Undefined, Zero}
 use Rattle.values.proofs.Singles.{single-lawful}
 use Rattle.boards.specs.declared.board.Board.{Board}
-use Rattle.boards.specs.declared.gate.Gate.{Gate}
-use Rattle.boards.specs.Gates.{named}
+use Rattle.gates.specs.declared.gate.Gate.{Gate}
+use Rattle.gates.specs.Gates.{named}
 use Rattle.solutions.specs.Solutions.{reads, given}
 use Rattle.solutions.specs.Rounds.{frame-row}
 use Rattle.solutions.specs.Runs.{bit, input-count, Frame, Bad, Bad-at}

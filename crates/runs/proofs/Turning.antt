@@ -10,7 +10,7 @@ use Rattle.std.specs.shelf.Lists.{All}
 use Rattle.std.proofs.shelf.Lists.{length-drop, length-take-le}
 use Rattle.values.specs.Single.{single}
 use Rattle.values.specs.declared.single.Value.{Value}
-use Rattle.boards.specs.declared.gate.Gate.{Gate}
+use Rattle.gates.specs.declared.gate.Gate.{Gate}
 use Rattle.solutions.specs.Solutions.{reads, given}
 use Rattle.solutions.specs.Rounds.{frame-row}
 use Rattle.solutions.specs.Runs.{bit}

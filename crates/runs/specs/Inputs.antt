@@ -9,7 +9,7 @@ use Rattle.refusals.specs.declared.Failure.{Failure}
 use Rattle.refusals.specs.declared.Failure.the-variants.{Refused, Memory}
 use Rattle.refusals.specs.declared.Refusal.the-variants as refusal
 use Rattle.values.specs.declared.single.Value.{Value}
-use Rattle.boards.specs.declared.gate.Gate.{Gate}
+use Rattle.gates.specs.declared.gate.Gate.{Gate}
 use Rattle.solutions.specs.Runs.{bit, input-count, Run}
 use Rattle.runs.specs.Rows.{byte, Rows}
 

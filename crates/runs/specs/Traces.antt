@@ -12,7 +12,7 @@ use Rattle.refusals.specs.declared.Failure.the-variants.{Refused, Memory}
 use Rattle.refusals.specs.declared.Refusal.the-variants as refusal
 use Rattle.values.specs.Single.{single}
 use Rattle.values.specs.declared.single.Value.{Value}
-use Rattle.boards.specs.declared.gate.Gate.{Gate}
+use Rattle.gates.specs.declared.gate.Gate.{Gate}
 use Rattle.boards.specs.Sheets.{Sheet}
 use Rattle.solutions.specs.Solutions.{reads}
 use Rattle.solutions.specs.Runs.{Frame, Bad-at}

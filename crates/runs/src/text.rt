@@ -1,7 +1,7 @@
 ghost use mathlib.Core.Path.{_≡_};
 ghost use Rattle.std.specs.Of.String.{string-bytes};
 ghost use Rattle.std.specs.Vec.{made};
-ghost use Rattle.boards.specs.Gates.{is-register, rank};
+ghost use Rattle.gates.specs.Gates.{is-register, rank};
 ghost use Rattle.boards.specs.Sheets.{sheet};
 ghost use Rattle.runs.specs.Text.{letter as letterOf, board-line, frame-line, verdict-line};
 ghost use lib.ListN.{length};

@@ -7,7 +7,7 @@ use native.Mathlib.Omega.{arith}
 use lib.ListN.{length, replicate}
 use Rattle.std.proofs.shelf.Ways.{not-from-decides}
 use Rattle.values.specs.Kinds.{Kind, Lawful}
-use Rattle.boards.specs.declared.gate.Gate.{Gate}
+use Rattle.gates.specs.declared.gate.Gate.{Gate}
 use Rattle.solutions.specs.Solutions.{reads, Least}
 use Rattle.solutions.specs.Rounds.{round, rounds, same-row, most-rounds, frame-rounds, frame-row}
 use Rattle.solutions.specs.Claims.{Named}

@@ -12,7 +12,7 @@ use Rattle.values.specs.declared.single.Value.{Value}
 use Rattle.values.specs.declared.single.Value.the-variants.{Undefined, Zero, One}
 use Rattle.values.proofs.Ranks.{equal-or-not}
 use Rattle.values.proofs.Singles.{single-lawful}
-use Rattle.boards.specs.declared.gate.Gate.{Gate}
+use Rattle.gates.specs.declared.gate.Gate.{Gate}
 use Rattle.solutions.specs.Solutions.{reads, Least, given}
 use Rattle.solutions.specs.Rounds.{frame-row}
 use Rattle.solutions.specs.Runs.{bit, Frame, Bad, Bad-at}

@@ -7,8 +7,8 @@ use lib.ListN.{length}
 use Rattle.std.specs.shelf.Lists.{All}
 use Rattle.std.proofs.shelf.Lists.{length-map, ext-getD}
 use Rattle.values.specs.Kinds.{Kind, Lawful}
-use Rattle.boards.specs.declared.gate.Gate.{Gate}
-use Rattle.boards.specs.Gates.{wires, is-input, rank}
+use Rattle.gates.specs.declared.gate.Gate.{Gate}
+use Rattle.gates.specs.Gates.{wires, is-input, rank}
 use Rattle.std.specs.Options.{mapped}
 use Rattle.std.specs.declared.option.Option.{Option}
 use Rattle.std.specs.declared.option.Option.the-variants.{Some, None}

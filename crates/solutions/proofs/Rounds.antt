@@ -12,7 +12,7 @@ use Rattle.std.proofs.shelf.Tests.{cases-eq, cases-bool}
 use Rattle.std.proofs.shelf.Ways.{not-from-decides}
 use Rattle.values.specs.Kinds.{Kind, Lawful}
 use Rattle.values.proofs.Ranks.{total, total-le, rises}
-use Rattle.boards.specs.declared.gate.Gate.{Gate}
+use Rattle.gates.specs.declared.gate.Gate.{Gate}
 use Rattle.solutions.specs.Solutions.{gate-at, reads, Solves, Least}
 use Rattle.solutions.specs.Rounds.{round, rounds, same-row, rounds-from, most-rounds, frame-rounds, frame-row}
 use Rattle.solutions.specs.Claims.{Named, Rounds-end}

@@ -10,9 +10,9 @@ use Rattle.std.proofs.shelf.Tests.{and-parts}
 use Rattle.std.proofs.shelf.Ways.{decides-ltb, decides-by-and}
 use Rattle.std.proofs.shelf.Elements.{all-getD, all-weaker}
 use Rattle.values.specs.Kinds.{Kind, Lawful}
-use Rattle.boards.specs.declared.gate.Gate.{Gate}
-use Rattle.boards.specs.declared.gate.Gate.the-variants.{Input, Zero, One, Copy, Not, And, Or, Implies, Xor, Register}
-use Rattle.boards.specs.Gates.{wires, all-below, named}
+use Rattle.gates.specs.declared.gate.Gate.{Gate}
+use Rattle.gates.specs.declared.gate.Gate.the-variants.{Input, Zero, One, Copy, Not, And, Or, Implies, Xor, Register}
+use Rattle.gates.specs.Gates.{wires, all-below, named}
 use Rattle.solutions.specs.Solutions.{gate-at, wanted, supplied}
 use Rattle.solutions.specs.Claims.{Named, Keeps}
 

@@ -12,8 +12,8 @@ use Rattle.values.specs.Single.{single}
 use Rattle.values.specs.Lanes.{lane, lanes}
 use Rattle.values.specs.declared.lanes.Lanes.{Lanes}
 use Rattle.values.specs.declared.single.Value.{Value}
-use Rattle.boards.specs.declared.gate.Gate.{Gate}
-use Rattle.boards.specs.Gates.{named}
+use Rattle.gates.specs.declared.gate.Gate.{Gate}
+use Rattle.gates.specs.Gates.{named}
 use Rattle.solutions.specs.Solutions.{reads, Least, given, frame-before}
 use Rattle.solutions.specs.Rounds.{rounds, most-rounds, frame-rounds, frame-row}
 use Rattle.solutions.specs.Runs.{Frame, Bad-at, Bad-within}

@@ -9,8 +9,8 @@ use Rattle.std.specs.shelf.Lists.{All}
 use Rattle.values.specs.Single.{single}
 use Rattle.values.specs.declared.single.Value.{Value}
 use Rattle.values.specs.declared.single.Value.the-variants.{Undefined, Zero, One}
-use Rattle.boards.specs.declared.gate.Gate.{Gate}
-use Rattle.boards.specs.Gates.{is-input, rank}
+use Rattle.gates.specs.declared.gate.Gate.{Gate}
+use Rattle.gates.specs.Gates.{is-input, rank}
 use Rattle.solutions.specs.Solutions.{Least, given}
 
 abbrev pub bit : Bool → Value

@@ -6,9 +6,9 @@ use lib.ListN.{length, getD}
 use Rattle.std.specs.declared.option.Option.{Option}
 use Rattle.std.specs.declared.option.Option.the-variants.{Some, None}
 use Rattle.values.specs.Kinds.{Kind}
-use Rattle.boards.specs.declared.gate.Gate.{Gate}
-use Rattle.boards.specs.declared.gate.Gate.the-variants.{Input, Zero, One, Copy, Not, And, Or, Implies, Xor, Register}
-use Rattle.boards.specs.Gates.{is-input, rank}
+use Rattle.gates.specs.declared.gate.Gate.{Gate}
+use Rattle.gates.specs.declared.gate.Gate.the-variants.{Input, Zero, One, Copy, Not, And, Or, Implies, Xor, Register}
+use Rattle.gates.specs.Gates.{is-input, rank}
 
 -- the gate of wire w
 abbrev pub gate-at : List Gate → ℕ → Gate

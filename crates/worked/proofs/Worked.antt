@@ -12,7 +12,7 @@ use Rattle.values.specs.Single.{single, alike}
 use Rattle.values.specs.declared.single.Value.{Value}
 use Rattle.values.specs.declared.single.Value.the-variants as value
 use Rattle.values.proofs.Singles.{single-lawful}
-use Rattle.boards.specs.declared.gate.Gate.{Gate}
+use Rattle.gates.specs.declared.gate.Gate.{Gate}
 use Rattle.solutions.specs.Rounds.{round, rounds, same-row, rounds-from, frame-row}
 use Rattle.solutions.specs.Runs.{Frame}
 use Rattle.solutions.specs.Claims.{Named}

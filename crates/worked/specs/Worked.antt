@@ -7,8 +7,8 @@ use Rattle.std.specs.declared.option.Option.the-variants.{None}
 use Rattle.values.specs.Single.{single}
 use Rattle.values.specs.declared.single.Value.{Value}
 use Rattle.values.specs.declared.single.Value.the-variants as value
-use Rattle.boards.specs.declared.gate.Gate.{Gate}
-use Rattle.boards.specs.declared.gate.Gate.the-variants.{Input, Zero, One, Copy, Not, And, Or, Register}
+use Rattle.gates.specs.declared.gate.Gate.{Gate}
+use Rattle.gates.specs.declared.gate.Gate.the-variants.{Input, Zero, One, Copy, Not, And, Or, Register}
 use Rattle.solutions.specs.Solutions.{reads, given, frame-before}
 use Rattle.solutions.specs.Rounds.{frame-rounds}
 use Rattle.solutions.specs.Runs.{Frame, Bad-at}

@@ -1,6 +1,6 @@
 use mathlib.Core.Path.{_≡_}
 use lib.ListN.{drop}
-use Rattle.boards.specs.Gates.{named}
+use Rattle.gates.specs.Gates.{named}
 use Rattle.boards.proofs.close.all_name_below.Given as given
 
 abbrev pub Inv-loop-gate : given.InvT-loop-gate

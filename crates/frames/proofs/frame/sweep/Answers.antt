@@ -3,8 +3,8 @@ use Prim.Native.Nat.{_<_}
 use native.Mathlib.Omega.{arith}
 use lib.ListN.{length}
 use Rattle.std.specs.Options.{mapped}
-use Rattle.boards.specs.Gates.{is-input}
-use Rattle.boards.proofs.Counting.{count-turn}
+use Rattle.gates.specs.Gates.{is-input}
+use Rattle.gates.proofs.Counting.{count-turn}
 use Rattle.solutions.specs.Rounds.{round, same-row}
 use Rattle.solutions.proofs.OneRound.{round-none}
 use Rattle.solutions.proofs.Rows.{changed-none}

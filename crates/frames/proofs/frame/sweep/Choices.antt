@@ -2,7 +2,7 @@ use mathlib.Core.Path.{_≡_}
 use mathlib.Core.Bool.{not}
 use Prim.Native.Nat.{_≤_}
 use Rattle.std.specs.Options.{mapped}
-use Rattle.boards.specs.Gates.{is-input, rank}
+use Rattle.gates.specs.Gates.{is-input, rank}
 use Rattle.solutions.specs.Rounds.{round, same-row}
 use Rattle.frames.specs.Frames.{frame-given}
 use Rattle.frames.proofs.frame.sweep.Given as given

@@ -1,7 +1,7 @@
 use mathlib.Core.Path.{refl, sym, _∙_}
 use mathlib.Core.Logic.{inl}
 use Rattle.std.specs.Of.Vec.{vec-items}
-use Rattle.boards.proofs.FirstRecord.{first-some}
+use Rattle.gates.proofs.FirstRecord.{first-some}
 use Rattle.gatefiles.proofs.Reading.{no-file, read-turn, read-full, read-end, shorter}
 use Rattle.gatefiles.proofs.read.draw_file.Needs as need
 

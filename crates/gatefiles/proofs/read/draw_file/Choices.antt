@@ -5,8 +5,8 @@ use lib.Dec.{ltb}
 use lib.ListN.{length, take}
 use Rattle.std.specs.Joined.{joined}
 use Rattle.std.specs.Of.Vec.{vec-items}
-use Rattle.boards.specs.declared.gate.Gate.{Gate}
-use Rattle.boards.specs.Records.{record-of}
+use Rattle.gates.specs.declared.gate.Gate.{Gate}
+use Rattle.gates.specs.Records.{record-of}
 use Rattle.gatefiles.proofs.read.draw_file.Given as given
 
 -- gs are the records read so far, of which the drawing has the first 256.

@@ -8,7 +8,7 @@ use Rattle.std.specs.Joined.{joined}
 use Rattle.std.proofs.shelf.Ways.{tells}
 use Rattle.boards.specs.Sheets.{sheet, sheet-of}
 use Rattle.gatefiles.specs.Files.{file-of, written}
-use Rattle.boards.specs.Records.{record-of}
+use Rattle.gates.specs.Records.{record-of}
 use Rattle.std.proofs.shelf.Lists.{take-at}
 use Rattle.gatefiles.proofs.GateFiles.{file-length, records-all, turn-fits, write-turn, write-end, file-closes}
 use Rattle.gatefiles.proofs.write.write_file.Needs as need

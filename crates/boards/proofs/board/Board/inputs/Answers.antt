@@ -1,6 +1,6 @@
 use native.Mathlib.Omega.{arith}
-use Rattle.boards.specs.Gates.{is-input}
-use Rattle.boards.proofs.Counting.{count-turn}
+use Rattle.gates.specs.Gates.{is-input}
+use Rattle.gates.proofs.Counting.{count-turn}
 use Rattle.boards.proofs.board.Board.inputs.Needs as need
 use Rattle.boards.proofs.board.Board.inputs.Needs.{then-is-input, else-is-input}
 

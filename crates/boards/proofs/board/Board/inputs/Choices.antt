@@ -2,7 +2,7 @@ use mathlib.Core.Path.{_≡_}
 use Prim.Native.Nat.{_≤_}
 use lib.ListN.{take}
 use Rattle.std.specs.shelf.Lists.{countBy}
-use Rattle.boards.specs.Gates.{is-input}
+use Rattle.gates.specs.Gates.{is-input}
 use Rattle.boards.proofs.board.Board.inputs.Given as given
 
 abbrev pub Inv-loop-gate : given.InvT-loop-gate

@@ -1,6 +1,6 @@
 use native.Mathlib.Omega.{arith}
-use Rattle.boards.specs.Gates.{is-register}
-use Rattle.boards.proofs.Counting.{count-turn}
+use Rattle.gates.specs.Gates.{is-register}
+use Rattle.gates.proofs.Counting.{count-turn}
 use Rattle.boards.proofs.board.Board.registers.Needs as need
 use Rattle.boards.proofs.board.Board.registers.Needs.{then-is-register, else-is-register}
 

@@ -8,8 +8,8 @@ use lib.Dec.{ltb, eqb}
 use lib.ListN.{length, getD, drop}
 use Rattle.std.specs.declared.option.Option.{Option}
 use Rattle.std.specs.declared.option.Option.the-variants.{Some, None}
-use Rattle.boards.specs.declared.gate.Gate.{Gate}
-use Rattle.boards.specs.declared.gate.Gate.the-variants.{Input, Zero, One, Copy, Not, And, Or, Implies, Xor, Register}
+use Rattle.gates.specs.declared.gate.Gate.{Gate}
+use Rattle.gates.specs.declared.gate.Gate.the-variants.{Input, Zero, One, Copy, Not, And, Or, Implies, Xor, Register}
 
 abbrev pub record-of : Gate → List ℕ
 record-of Input = 0 ∷ []

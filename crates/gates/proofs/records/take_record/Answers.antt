@@ -1,8 +1,8 @@
 use mathlib.Core.Path.{refl}
 use borrow.Author.Needs.{needs}
-use Rattle.boards.proofs.FirstRecord.{first-at, none-at}
-use Rattle.boards.proofs.records.take_record.Needs as need
-use Rattle.boards.proofs.records.take_record.Needs.{in-rest·by·then-bytes-lt1, in-rest·by·else-bytes-lt1·then-bytes-lt2·in-rest·, in-rest·by·else-bytes-lt1·else-bytes-lt2·then-bytes-lt3·in-rest·, in-rest·by·else-bytes-lt1·else-bytes-lt2·else-bytes-lt3·in-rest·}
+use Rattle.gates.proofs.FirstRecord.{first-at, none-at}
+use Rattle.gates.proofs.records.take_record.Needs as need
+use Rattle.gates.proofs.records.take_record.Needs.{in-rest·by·then-bytes-lt1, in-rest·by·else-bytes-lt1·then-bytes-lt2·in-rest·, in-rest·by·else-bytes-lt1·else-bytes-lt2·then-bytes-lt3·in-rest·, in-rest·by·else-bytes-lt1·else-bytes-lt2·else-bytes-lt3·in-rest·}
 
 pub returns-in-0 : need.returns-in-0
 returns-in-0 c = first-at 0 (c .args .bytes .now) refl (search needs) (search needs)

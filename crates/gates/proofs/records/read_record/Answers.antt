@@ -1,9 +1,9 @@
 use mathlib.Core.Path.{_≡_, sym, subst}
 use borrow.Author.Needs.{needs}
 use Rattle.std.specs.declared.option.Option.the-variants.{Some}
-use Rattle.boards.specs.Records.{gate-in, Recorded}
-use Rattle.boards.proofs.FirstRecord.{recorded}
-use Rattle.boards.proofs.records.read_record.Needs as need
+use Rattle.gates.specs.Records.{gate-in, Recorded}
+use Rattle.gates.proofs.FirstRecord.{recorded}
+use Rattle.gates.proofs.records.read_record.Needs as need
 
 pub returns-in-rest-empty : need.returns-in-rest-empty
 returns-in-rest-empty c =

@@ -1,6 +1,6 @@
 ghost use mathlib.Core.Path.{_≡_};
 ghost use Rattle.std.specs.Options.{mapped};
-ghost use Rattle.boards.specs.Records.{first-record, gate-in, Recorded};
+ghost use Rattle.gates.specs.Records.{first-record, gate-in, Recorded};
 use crate::gate::Gate;
 
 /// The record that the bytes begin with, and the bytes after it.

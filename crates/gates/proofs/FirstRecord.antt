@@ -12,9 +12,9 @@ use Rattle.std.proofs.shelf.Tests.{lt-ltb, cases-bool, ltb-true, and-parts}
 use Rattle.std.proofs.shelf.Ways.{tells}
 use Rattle.std.specs.declared.option.Option.{Option}
 use Rattle.std.specs.declared.option.Option.the-variants.{Some, None}
-use Rattle.boards.specs.declared.gate.Gate.{Gate}
-use Rattle.boards.specs.declared.gate.Gate.the-variants.{Input, Zero, One, Copy, Not, And, Or, Implies, Xor, Register}
-use Rattle.boards.specs.Records.{record-of, arity, gate-of, first-record, alone, gate-in, Recorded}
+use Rattle.gates.specs.declared.gate.Gate.{Gate}
+use Rattle.gates.specs.declared.gate.Gate.the-variants.{Input, Zero, One, Copy, Not, And, Or, Implies, Xor, Register}
+use Rattle.gates.specs.Records.{record-of, arity, gate-of, first-record, alone, gate-in, Recorded}
 
 module _ (k : ℕ) (bs : List ℕ) (kind : ltb k 10 ≡ true) (head : getD bs 0 0 ≡ k) (long : arity k < length bs) where
   pub first-at : Some (gate-of k (getD bs 1 0) (getD bs 2 0), take (length bs - (1 + arity k)) (drop (1 + arity k) bs)) ≡ first-record bs
