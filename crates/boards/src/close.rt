@@ -1,8 +1,7 @@
 ghost use mathlib.Core.Path.{_≡_};
-ghost use mathlib.Core.List.{List};
 ghost use Rattle.std.specs.Results.{Cases};
 ghost use Rattle.std.specs.declared.option.Option.the-variants.{Some, None};
-ghost use Rattle.gates.specs.Gates.{all-below, wires as wiresOf, named};
+ghost use Rattle.gates.specs.Gates.{named};
 ghost use Rattle.boards.specs.Sheets.{drawn, sheet, sheet-of, closing};
 use crate::board::Board;
 use crate::drawing::Drawing;

@@ -1,14 +1,13 @@
 -- A gate file is read record by record.
-use mathlib.Core.Path.{_≡_, refl, sym, ap, _∙_, subst}
+use mathlib.Core.Path.{_≡_, refl, sym, ap, _∙_}
 use mathlib.Core.Logic.{_≢_, _⊎_, inl, inr}
 use mathlib.Core.Bool.{Bool, true, false, cond, not}
 use mathlib.Core.List.{List, [], _∷_, _++_}
-use Prim.Native.Nat.{ℕ, zero, suc, min, _+_, _<_, _≤_}
+use Prim.Native.Nat.{ℕ, min, _+_, _<_, _≤_}
 use native.Mathlib.Omega.{arith}
 use lib.Dec.{ltb}
-use lib.ListN.{length, take, drop, getD}
+use lib.ListN.{length, take, getD}
 use Rattle.std.specs.Joined.{joined}
-use Rattle.std.specs.Options.{mapped}
 use Rattle.std.proofs.shelf.Lists.{append-assoc, append-nil, take-all, take-append-le, length-append, length-take, length-push, joined-more}
 use Rattle.std.proofs.shelf.Tests.{ltb-true, ltb-false, lt-ltb, le-ltb, le-leb, lt-leb, cases-lt}
 use Rattle.std.proofs.shelf.Ways.{tells}
@@ -24,9 +23,8 @@ use Rattle.refusals.specs.declared.Refusal.{Refusal}
 use Rattle.boards.specs.declared.board.Board.{Board}
 use Rattle.boards.specs.declared.close.Unclosed.{Unclosed}
 use Rattle.boards.specs.Sheets.{Sheet, sheet, sheet-of, drawn as drawn-of, closing}
-use Rattle.gatefiles.specs.Files.{ending, file-of, file-closing, Misread, Unread, Read, Reread}
-use Rattle.gates.proofs.FirstRecord.{first-of, first-some}
-use Rattle.gatefiles.proofs.GateFiles.{joined-append}
+use Rattle.gatefiles.specs.Files.{ending, file-of, file-closing, Misread, Read, Reread}
+use Rattle.gates.proofs.FirstRecord.{first-of}
 
 pub three : (bs : List ℕ) → length bs ≡ 3 → getD bs 0 0 ≡ 15 → bs ≡ ending (getD bs 1 0) (getD bs 2 0)
 three [] e h = absurd (omega arith)

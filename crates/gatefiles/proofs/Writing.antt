@@ -1,11 +1,11 @@
 -- A buffer is written piece after piece.
-use mathlib.Core.Path.{_≡_, refl, sym, ap, _∙_}
-use mathlib.Core.List.{List, [], _∷_, _++_}
-use Prim.Native.Nat.{ℕ, _+_, _-_, _<_, _≤_}
+use mathlib.Core.Path.{_≡_, sym, ap, _∙_}
+use mathlib.Core.List.{List, _++_}
+use Prim.Native.Nat.{ℕ, _+_, _-_}
 use native.Mathlib.Omega.{arith}
 use lib.ListN.{length, take, drop}
 use borrow.Rule.Slice.PartMut.{putMid}
-use Rattle.std.proofs.shelf.Lists.{drop-drop, take-at, drop-at, append-assoc, length-append}
+use Rattle.std.proofs.shelf.Lists.{drop-drop, take-at, drop-at, append-assoc}
 
 -- what copying the bytes to a place leaves
 pub put-is : (at : ℕ) (buffer part bytes : List ℕ) → part ≡ bytes → putMid at ((at + length bytes) - at) buffer part ≡ take at buffer ++ (bytes ++ drop (at + length bytes) buffer)

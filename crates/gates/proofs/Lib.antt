@@ -1,2 +1,3 @@
 pub mod FirstRecord
 pub mod Counting
+pub mod Names

@@ -1,5 +1,4 @@
 -- The lanes of a lane frame are single frames.
-use mathlib.Core.Path.{_≡_}
 use Prim.Native.Nat.{ℕ, _<_}
 use Rattle.values.specs.Single.{single}
 use Rattle.values.specs.Lanes.{lane, lanes}

@@ -15,7 +15,8 @@ use Rattle.std.specs.declared.option.Option.the-variants.{Some, None}
 use Rattle.solutions.specs.Solutions.{gate-at, reads, wanted, Solves, Least, given, frame-before}
 use Rattle.solutions.specs.Rounds.{rounds, frame-row}
 use Rattle.solutions.specs.Claims.{Named, Keeps, Least-unique}
-use Rattle.solutions.proofs.Wanted.{wires-below, map-related, wanted-same, supplied-same, supplied-related}
+use Rattle.gates.proofs.Names.{wires-below}
+use Rattle.solutions.proofs.Wanted.{map-related, wanted-same, supplied-same, supplied-related}
 use Rattle.solutions.proofs.OneRound.{length-rounds, rounds-related}
 use Rattle.solutions.proofs.Rounds.{rounds-end, still-least}
 

@@ -13,7 +13,8 @@ use Rattle.gates.specs.declared.gate.Gate.{Gate}
 use Rattle.solutions.specs.Solutions.{gate-at, reads, wanted, Solves}
 use Rattle.solutions.specs.Rounds.{round, rounds}
 use Rattle.solutions.specs.Claims.{Named}
-use Rattle.solutions.proofs.Wanted.{wires-below, Related, wanted-related, related-below, wanted-same}
+use Rattle.gates.proofs.Names.{wires-below}
+use Rattle.solutions.proofs.Wanted.{Related, wanted-related, related-below, wanted-same}
 
 -- the value that wire w wants of a row
 abbrev pub want : {A : Type 0} → Kind A → List Gate → (ℕ → A) → List A → ℕ → A

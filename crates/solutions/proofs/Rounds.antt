@@ -17,7 +17,8 @@ use Rattle.solutions.specs.Solutions.{gate-at, reads, Solves, Least}
 use Rattle.solutions.specs.Rounds.{round, rounds, same-row, rounds-from, most-rounds, frame-rounds, frame-row}
 use Rattle.solutions.specs.Claims.{Named, Rounds-end}
 use Rattle.solutions.proofs.Firsts.{find-first}
-use Rattle.solutions.proofs.Wanted.{wires-below, wanted-rises}
+use Rattle.gates.proofs.Names.{wires-below}
+use Rattle.solutions.proofs.Wanted.{wanted-rises}
 use Rattle.solutions.proofs.OneRound.{want, rounds-suc, length-rounds, still-solves}
 use Rattle.solutions.proofs.Rows.{same-row-decides}
 

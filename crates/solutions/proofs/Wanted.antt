@@ -1,34 +1,15 @@
 -- What a gate wants of a frame: it depends on the named wires alone, it rises with them, and a map that keeps the gates keeps it.
 use mathlib.Core.Path.{_≡_, refl, ap, ap₂, _∙_}
-use mathlib.Core.Bool.{true}
-use mathlib.Core.List.{List, [], _∷_}
 use Prim.Native.Nat.{ℕ, _<_}
-use lib.Dec.{ltb}
-use lib.ListN.{length}
 use Rattle.std.specs.shelf.Lists.{All}
-use Rattle.std.proofs.shelf.Tests.{and-parts}
-use Rattle.std.proofs.shelf.Ways.{decides-ltb, decides-by-and}
-use Rattle.std.proofs.shelf.Elements.{all-getD, all-weaker}
+use Rattle.std.proofs.shelf.Elements.{all-weaker}
 use Rattle.values.specs.Kinds.{Kind, Lawful}
 use Rattle.gates.specs.declared.gate.Gate.{Gate}
 use Rattle.gates.specs.declared.gate.Gate.the-variants.{Input, Zero, One, Copy, Not, And, Or, Implies, Xor, Register}
-use Rattle.gates.specs.Gates.{wires, all-below, named}
-use Rattle.solutions.specs.Solutions.{gate-at, wanted, supplied}
-use Rattle.solutions.specs.Claims.{Named, Keeps}
-
--- every wire that the gate names is below n
-abbrev pub Names-below : ℕ → Gate → Type 0
-Names-below n g = All (λ y. y < n) (wires g)
-
-pub names-below : (n : ℕ) (g : Gate) → all-below n (wires g) ≡ true → Names-below n g
-names-below n g = decides-by-and (λ y. ltb y n) (λ y. y < n) (all-below n) (λ y. decides-ltb y n) refl (λ _ _. refl) (wires g) .0
-
-pub all-named : (n : ℕ) (gs : List Gate) → named n gs ≡ true → All (Names-below n) gs
-all-named n [] h = tt
-all-named n (g ∷ gs) h = let k = and-parts (all-below n (wires g)) (named n gs) h in (names-below n g (k .0), all-named n gs (k .1))
-
-pub wires-below : (gs : List Gate) → Named gs → (w : ℕ) → w < length gs → Names-below (length gs) (gate-at gs w)
-wires-below gs h w l = all-getD (Names-below (length gs)) gs w Input l (all-named (length gs) gs h)
+use Rattle.gates.specs.Gates.{wires}
+use Rattle.gates.proofs.Names.{Names-below}
+use Rattle.solutions.specs.Solutions.{wanted, supplied}
+use Rattle.solutions.specs.Claims.{Keeps}
 
 -- A relation between the values of two kinds that the constants and the gates keep.
 pub record Related {A B : Type 0} (K : Kind A) (J : Kind B) (R : A → B → Type 0) : Type 0 where

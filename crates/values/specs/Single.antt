@@ -4,7 +4,7 @@ use mathlib.Core.Bool.{Bool, true, false}
 use Prim.Native.Nat.{ℕ}
 use Rattle.values.specs.declared.single.Value.{Value}
 use Rattle.values.specs.declared.single.Value.the-variants.{Undefined, Zero, One}
-use Rattle.values.specs.Sides.{Rail, rail0, rail1, Right, holds, Sides, not-sides, and-sides, or-sides, implies-sides, xor-sides}
+use Rattle.values.specs.Sides.{Rail, rail0, rail1, holds, Sides, not-sides, and-sides, or-sides, implies-sides, xor-sides}
 use Rattle.values.specs.Kinds.{Kind}
 
 abbrev pub is0 : Value → Bool

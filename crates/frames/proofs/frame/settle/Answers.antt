@@ -1,11 +1,11 @@
-use mathlib.Core.Path.{_≡_, sym, ap, _∙_, subst}
+use mathlib.Core.Path.{sym, ap, _∙_, subst}
 use Prim.Native.Nat.{_+_}
 use native.Mathlib.Omega.{arith}
-use lib.ListN.{length, replicate}
+use lib.ListN.{replicate}
 use borrow.Author.Needs.{needs}
 use Rattle.std.specs.Options.{mapped}
 use Rattle.solutions.specs.Rounds.{same-row}
-use Rattle.solutions.proofs.Counting.{Counting, Counted, counting-none, counting-length, counting-bound, counting-more, counting-last}
+use Rattle.solutions.proofs.Counting.{Counting, counting-none, counting-length, counting-bound, counting-more, counting-last}
 use Rattle.frames.specs.Frames.{frame-given}
 use Rattle.frames.proofs.Sweeping.{few-rounds}
 use Rattle.frames.proofs.frame.settle.Needs as need

@@ -1,0 +1,2 @@
+pub mod Across
+pub mod Variables
