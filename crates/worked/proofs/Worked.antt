@@ -78,4 +78,12 @@ boards-worked = record {
   self-and-rounds = refl;
   constant-rounds = refl;
   backward-copies-rounds = refl;
+  constant-base = refl;
+  constant-base-variables = refl;
+  settled-loop-base = (refl, refl);
+  settled-loop-step = (refl, refl);
+  ring-base = (refl, refl);
+  ring-step = (refl, refl);
+  toggle-base = (refl, refl);
+  toggle-step = (refl, refl);
 }

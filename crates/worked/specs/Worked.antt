@@ -3,12 +3,15 @@ use mathlib.Core.Path.{_≡_}
 use mathlib.Core.Bool.{Bool, true, false}
 use mathlib.Core.List.{List, [], _∷_}
 use Prim.Native.Nat.{ℕ}
+use lib.ListN.{length}
 use Rattle.std.specs.declared.option.Option.the-variants.{None}
 use Rattle.values.specs.Single.{single}
 use Rattle.values.specs.declared.single.Value.{Value}
 use Rattle.values.specs.declared.single.Value.the-variants as value
 use Rattle.gates.specs.declared.gate.Gate.{Gate}
 use Rattle.gates.specs.declared.gate.Gate.the-variants.{Input, Zero, One, Copy, Not, And, Or, Register}
+use Rattle.clauses.specs.Clauses.{Clause, plus, minus}
+use Rattle.formulas.specs.Formulas.{base, step, base-variables, step-variables}
 use Rattle.solutions.specs.Solutions.{reads, given, frame-before}
 use Rattle.solutions.specs.Rounds.{frame-rounds}
 use Rattle.solutions.specs.Runs.{Frame, Bad-at}
@@ -63,6 +66,10 @@ row xs = reads single xs
 abbrev pub first-frame-rounds : List Gate → ℕ
 first-frame-rounds gs = frame-rounds single gs (given single gs [] (frame-before single None))
 
+-- so many variables and clauses
+abbrev pub Counts : ℕ → List Clause → ℕ → ℕ → Type 0
+Counts V cs variables clauses = (V ≡ variables) × (length cs ≡ clauses)
+
 pub record Boards-worked : Type 0 where
   -- the values of frames
   pub self-and-frame : Frame self-and no-inputs 1 (row (value.Undefined ∷ []))
@@ -85,3 +92,14 @@ pub record Boards-worked : Type 0 where
   pub self-and-rounds : first-frame-rounds self-and ≡ 1
   pub constant-rounds : first-frame-rounds constant ≡ 2
   pub backward-copies-rounds : first-frame-rounds backward-copies ≡ 4
+  -- the base formula of the constant at depth 1, clause for clause
+  pub constant-base :
+      base constant 0 1 ≡ (minus 0 ∷ minus 1 ∷ []) ∷ (minus 0 ∷ []) ∷ (plus 1 ∷ []) ∷ (minus 2 ∷ minus 0 ∷ []) ∷ (minus 2 ∷ minus 1 ∷ []) ∷ (plus 2 ∷ minus 1 ∷ []) ∷ []
+  pub constant-base-variables : base-variables constant 1 ≡ 3
+  -- how many variables and clauses the formulas have
+  pub settled-loop-base : Counts (base-variables settled-loop 1) (base settled-loop 2 1) 9 22
+  pub settled-loop-step : Counts (step-variables settled-loop 1) (step settled-loop 2 1) 15 42
+  pub ring-base : Counts (base-variables ring 1) (base ring 8 1) 27 64
+  pub ring-step : Counts (step-variables ring 1) (step ring 8 1) 45 120
+  pub toggle-base : Counts (base-variables toggle 2) (base toggle 1 2) 12 26
+  pub toggle-step : Counts (step-variables toggle 2) (step toggle 1 2) 17 45

@@ -1,4 +1,4 @@
-//! Small boards worked out by the definitions: the values of their frames, which frames are bad, and the numbers of rounds.
+//! Small boards worked out by the definitions: the values of their frames, which frames are bad, the numbers of rounds, and the formulas.
 ghost use Rattle.worked.specs.Worked.{Boards-worked};
 
 /// The table of worked boards stands.
