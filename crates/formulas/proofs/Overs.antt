@@ -14,7 +14,7 @@ use Rattle.gates.specs.declared.gate.Gate.the-variants.{Input, Zero, One, Copy,
 use Rattle.gates.specs.Gates.{named, is-register, rank}
 use Rattle.gates.proofs.Names.{wires-below}
 use Rattle.gates.proofs.Counting.{rank-up}
-use Rattle.clauses.specs.Clauses.{Clause, Over, plus, minus, across}
+use Rattle.clauses.specs.Clauses.{Over, plus, minus, across}
 use Rattle.clauses.proofs.Across.{all-across}
 use Rattle.clauses.proofs.Variables.{Within}
 use Rattle.formulas.specs.Drives.{Drive, input, register, settled, drive, driver}

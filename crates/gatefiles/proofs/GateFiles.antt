@@ -17,7 +17,7 @@ use Rattle.boards.proofs.Closed.{board-few, board-closes}
 use Rattle.gates.specs.Records.{record-of}
 use Rattle.boards.specs.Sheets.{Sheet, sheet, sheet-of, closing}
 use Rattle.gatefiles.specs.Files.{ending, file-of, file-closing}
-use Rattle.gatefiles.proofs.Writing.{put-more}
+use Rattle.buffers.proofs.Writing.{put-more}
 
 pub joined-append : {X A : Type 0} (f : X → List A) (xs ys : List X) → joined f (xs ++ ys) ≡ joined f xs ++ joined f ys
 joined-append f [] ys = refl

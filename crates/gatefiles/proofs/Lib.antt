@@ -1,3 +1,2 @@
-pub mod Writing
 pub mod GateFiles
 pub mod Reading

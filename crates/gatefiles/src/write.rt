@@ -1,14 +1,14 @@
 ghost use Prim.Native.Nat.{_+_, _≤_};
 ghost use mathlib.Core.Path.{_≡_};
 ghost use mathlib.Core.Bool.{cond};
-ghost use mathlib.Core.List.{_++_};
 ghost use lib.Dec.{leb};
-ghost use lib.ListN.{length, take, drop};
+ghost use lib.ListN.{length, take};
 ghost use Rattle.std.specs.Results.{isOk};
 ghost use Rattle.std.specs.Vec.{made};
 ghost use Rattle.std.specs.declared.option.Option.the-variants.{None};
 ghost use Rattle.std.specs.declared.result.Result.the-variants.{Ok, Err};
 ghost use Rattle.refusals.specs.declared.Refusal.the-variants.{Buffer};
+ghost use Rattle.buffers.specs.Buffers.{written-at};
 ghost use Rattle.gates.specs.Records.{record-of};
 ghost use Rattle.boards.specs.Sheets.{sheet};
 ghost use Rattle.gatefiles.specs.Files.{file-of, file-closing, written};
@@ -48,7 +48,7 @@ fn to_record(gate: Gate) -> Record
 /// Writes the bytes at a place where they fit.
 fn put(buffer: &mut [u8], at: usize, bytes: &[u8])
     requires { ⌜ at + length (now bytes) ≤ length (now buffer) ⌝ }
-    ensures { λ _. ⌜ now (buffer .exit) ≡ take at (now (buffer .entry)) ++ (now (bytes .entry) ++ drop (at + length (now (bytes .entry))) (now (buffer .entry))) ⌝ }
+    ensures { λ _. ⌜ now (buffer .exit) ≡ written-at at (now (bytes .entry)) (now (buffer .entry)) ⌝ }
 {
     buffer[at..at + bytes.len()].copy_from_slice(bytes);
 }

@@ -1,4 +1,4 @@
-use Rattle.gatefiles.proofs.Writing.{put-is}
+use Rattle.buffers.proofs.Writing.{put-is}
 use Rattle.gatefiles.proofs.write.put.Needs as need
 
 pub returns : need.returns

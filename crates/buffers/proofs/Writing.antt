@@ -5,10 +5,11 @@ use Prim.Native.Nat.{ℕ, _+_, _-_}
 use native.Mathlib.Omega.{arith}
 use lib.ListN.{length, take, drop}
 use borrow.Rule.Slice.PartMut.{putMid}
+use Rattle.buffers.specs.Buffers.{written-at}
 use Rattle.std.proofs.shelf.Lists.{drop-drop, take-at, drop-at, append-assoc}
 
 -- what copying the bytes to a place leaves
-pub put-is : (at : ℕ) (buffer part bytes : List ℕ) → part ≡ bytes → putMid at ((at + length bytes) - at) buffer part ≡ take at buffer ++ (bytes ++ drop (at + length bytes) buffer)
+pub put-is : (at : ℕ) (buffer part bytes : List ℕ) → part ≡ bytes → putMid at ((at + length bytes) - at) buffer part ≡ written-at at bytes buffer
 put-is at buffer part bytes e =
     let size : (at + length bytes) - at ≡ length bytes = omega arith in
     rw (e, size) (ap (λ xs. take at buffer ++ (bytes ++ xs)) (drop-drop (length bytes) at buffer))
