@@ -1,0 +1,15 @@
+pub mod Parts
+pub mod Equations
+pub mod Values
+pub mod Encoding
+pub mod Solved
+pub mod Ranked
+pub mod Sequences
+pub mod Valuations
+pub mod BaseTo
+pub mod BaseFrom
+pub mod Pairs
+pub mod Cuts
+pub mod Steps
+pub mod Never
+pub mod Tried
