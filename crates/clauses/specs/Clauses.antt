@@ -6,10 +6,11 @@ use mathlib.Core.Bool.{Bool, true, false, not, _||_}
 use mathlib.Core.List.{List, [], _∷_, _++_}
 use Prim.Native.Nat.{ℕ, zero, suc, _<_, _≤_}
 use lib.IntN.{ℤ, pos, negsuc}
+use lib.ListN.{length}
 use Rattle.std.specs.Finite.{nth}
 use Rattle.std.specs.shelf.Lists.{All}
 use Rattle.std.specs.declared.option.Option.{Option}
-use Rattle.std.specs.declared.option.Option.the-variants.{None}
+use Rattle.std.specs.declared.option.Option.the-variants.{Some, None}
 
 abbrev pub Clause : Type 0
 Clause = List ℤ
@@ -55,3 +56,12 @@ numbered cs (suc k) = nth cs k
 abbrev pub across : {A : Type 0} → ℕ → (ℕ → List A) → List A
 across zero f = []
 across (suc n) f = across n f ++ f n
+
+-- how many literals a clause has that may be absent, and its literal at a place, counted from 0
+abbrev pub lengthOf : Option Clause → Option ℕ
+lengthOf None = None
+lengthOf (Some c) = Some (length c)
+
+abbrev pub literalOf : Option Clause → ℕ → Option ℤ
+literalOf None at = None
+literalOf (Some c) at = nth c at

@@ -1,0 +1,4 @@
+pub mod Weights
+pub mod Rows
+pub mod Places
+pub mod Meaning

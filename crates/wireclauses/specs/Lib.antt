@@ -1,0 +1,3 @@
+pub mod Literals
+pub mod Sides
+pub mod Sizes
