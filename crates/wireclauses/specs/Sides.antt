@@ -1,10 +1,11 @@
 -- The code's rails, right sides and drives as those of the table of gates, and the clauses of each shape of right side.
-use mathlib.Core.Bool.{Bool, cond}
-use mathlib.Core.List.{List, [], _∷_}
+use mathlib.Core.Bool.{Bool}
+use mathlib.Core.List.{List}
 use Prim.Native.Nat.{ℕ}
 use Rattle.values.specs.Sides.{Rail, rail0, rail1, Right, fixed, one, either, both, two-boths, Sides}
-use Rattle.clauses.specs.Clauses.{Clause, plus, minus}
+use Rattle.clauses.specs.Clauses.{Clause}
 use Rattle.formulas.specs.Drives.{Drive, input, register, settled}
+use Rattle.formulas.specs.Formulas.{equation}
 use Rattle.wireclauses.specs.declared.sides.Rail as code-rail
 use Rattle.wireclauses.specs.declared.sides.Right as code-right
 use Rattle.wireclauses.specs.declared.sides.Drive as code-drive
@@ -31,21 +32,23 @@ drive-of Input = input
 drive-of (Register y) = register y
 drive-of (Settled r s) = settled (sides-of r s)
 
+-- The equations of a variable with other variables, whichever rails these are.
+abbrev pub variable-of : Rail ℕ → ℕ
+variable-of (rail0 x) = x
+variable-of (rail1 x) = x
+
 -- a is fixed; a = b; a = b or c; a = b and c; a = (b and c) or (e and f)
 abbrev pub fixed-clauses : ℕ → Bool → List Clause
-fixed-clauses a t = (cond t (plus a) (minus a) ∷ []) ∷ []
+fixed-clauses a t = equation variable-of a (fixed t)
 
 abbrev pub same-clauses : ℕ → ℕ → List Clause
-same-clauses a b = (minus a ∷ plus b ∷ []) ∷ (plus a ∷ minus b ∷ []) ∷ []
+same-clauses a b = equation variable-of a (one (rail0 b))
 
 abbrev pub either-clauses : ℕ → ℕ → ℕ → List Clause
-either-clauses a b c = (minus a ∷ plus b ∷ plus c ∷ []) ∷ (plus a ∷ minus b ∷ []) ∷ (plus a ∷ minus c ∷ []) ∷ []
+either-clauses a b c = equation variable-of a (either (rail0 b) (rail0 c))
 
 abbrev pub both-clauses : ℕ → ℕ → ℕ → List Clause
-both-clauses a b c = (plus a ∷ minus b ∷ minus c ∷ []) ∷ (minus a ∷ plus b ∷ []) ∷ (minus a ∷ plus c ∷ []) ∷ []
+both-clauses a b c = equation variable-of a (both (rail0 b) (rail0 c))
 
 abbrev pub two-boths-clauses : ℕ → ℕ → ℕ → ℕ → ℕ → List Clause
-two-boths-clauses a b c e f =
-    (minus a ∷ plus b ∷ plus e ∷ []) ∷ (minus a ∷ plus b ∷ plus f ∷ []) ∷
-    (minus a ∷ plus c ∷ plus e ∷ []) ∷ (minus a ∷ plus c ∷ plus f ∷ []) ∷
-    (plus a ∷ minus b ∷ minus c ∷ []) ∷ (plus a ∷ minus e ∷ minus f ∷ []) ∷ []
+two-boths-clauses a b c e f = equation variable-of a (two-boths (rail0 b) (rail0 c) (rail0 e) (rail0 f))
