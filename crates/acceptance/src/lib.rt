@@ -1,6 +1,9 @@
 //! Theorems: a refuting list that fits is accepted whole, and the lines kept follow from the formula.
 //!
 //! Each function's contract is its theorem; the functions themselves do nothing.
+
+#![tactic(auto)]
+
 ghost use Rattle.acceptance.specs.Claims.{TakenWhole, OnlyRefuting, StrikeFrees, RefusalsChangeNothing, KeptAtStart, KeptStays, KeptLinesFollow};
 ghost use Rattle.acceptance.specs.Examples.{Tried};
 

@@ -1,3 +1,5 @@
+#![tactic(auto)]
+
 // Reads board.bin and rows.bin from the folder it is started in, and prints the frames of that run up to the first bad one.
 use boards::{Board, Drawing};
 use gatefiles::read_file;

@@ -1,4 +1,7 @@
 //! Boards of gates and registers: boards under drawing, and closed boards.
+
+#![tactic(auto)]
+
 pub mod board;
 pub mod close;
 pub mod draw;

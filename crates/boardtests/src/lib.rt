@@ -1,4 +1,7 @@
 //! Edges of records, boards, gate files and frames, as tables of examples.
+
+#![tactic(auto)]
+
 #[cfg(test)]
 mod tests {
     use boards::{Board, Drawing};

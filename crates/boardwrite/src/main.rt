@@ -1,3 +1,5 @@
+#![tactic(auto)]
+
 // Reads board.bin from the folder it is started in, and writes the board's two formulas into it, as base.cnf and step.cnf.
 use boards::{Board, Drawing};
 use dimacs::{dimacs_text, tell_formula};

@@ -1,4 +1,7 @@
 //! Writing into a lent buffer, piece after piece.
+
+#![tactic(auto)]
+
 ghost use Rattle.std.specs.Prelude.{◌≡◌, ◌+◌, length, is_ok, if◌then◌else◌, Ok, Err, nat_le};
 ghost use Rattle.refusals.specs.declared.Refusal.TheVariants.{Buffer};
 ghost use Rattle.buffers.specs.Buffers.{written_at};

@@ -1,4 +1,7 @@
 //! Clauses over numbered variables: what a valuation is, when it satisfies them, and how clauses are asked for.
+
+#![tactic(auto)]
+
 ghost use Rattle.clauses.specs.Claims.{VariablesDecide};
 
 pub mod source;

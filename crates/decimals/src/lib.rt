@@ -1,4 +1,7 @@
 //! Numbers as decimal text, written into a lent buffer.
+
+#![tactic(auto)]
+
 ghost use Rattle.std.specs.Prelude.{◌≡◌, ◌+◌, length, is_ok, if◌then◌else◌, Ok, Err, nat_le};
 ghost use Rattle.refusals.specs.declared.Refusal.TheVariants.{Buffer};
 ghost use Rattle.buffers.specs.Buffers.{written_at};

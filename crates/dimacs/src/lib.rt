@@ -1,4 +1,7 @@
 //! The text of a formula, in the format that provers read.
+
+#![tactic(auto)]
+
 mod clauses;
 mod literals;
 mod numbers;

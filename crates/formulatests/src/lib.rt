@@ -1,4 +1,7 @@
 //! Texts of formulas that were worked out by hand, the edges of buffers, and the largest board.
+
+#![tactic(auto)]
+
 #[cfg(test)]
 mod tests {
     use boards::Drawing;

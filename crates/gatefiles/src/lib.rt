@@ -1,4 +1,7 @@
 //! Gate files: a board as bytes, read and written.
+
+#![tactic(auto)]
+
 pub mod read;
 pub mod write;
 

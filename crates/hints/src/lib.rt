@@ -1,4 +1,7 @@
 //! The line check: whether a line of literals follows from numbered clauses by its hints.
+
+#![tactic(auto)]
+
 ghost use Rattle.std.specs.Prelude.{◌≡◌, ◌-◌, true, false, length, replicate, if◌then◌else◌, Some, None, Ok, Err, nat_le};
 ghost use Rattle.std.specs.Option.{option_map};
 ghost use Rattle.refusals.specs.declared.Refusal.TheVariants.{Buffer};

@@ -1,6 +1,9 @@
 //! Theorems: what holds of a case after any list of calls, over a shelf of any capacity and any rule of cost.
 //!
 //! Each function's contract is its theorem; the functions themselves do nothing.
+
+#![tactic(auto)]
+
 ghost use Rattle.histories.specs.Law.{LawStands, RefusalsChangeNothing, CallsGoOn};
 
 use refusals::Refusal;

@@ -1,6 +1,9 @@
 //! Theorems about the two formulas of a board: what they say of its frames and of its runs.
 //!
 //! Each function's contract is its theorem; the functions themselves do nothing.
+
+#![tactic(auto)]
+
 ghost use Rattle.induction.specs.Claims.{Encodes, FrameEncodes, FrameShown, LeastDefined, DefinedLeast, BaseSays, BaseShows, HiddenNever, StepSays};
 ghost use Rattle.induction.specs.Examples.{StepCanHold, NeverHolds};
 

@@ -1,4 +1,7 @@
 //! A shelf that is a pool of words.
+
+#![tactic(auto)]
+
 ghost use Rattle.std.specs.Prelude.{◌≡◌, ◌/◌, ◌≤◌, [], IfOk};
 ghost use Rattle.shelf.specs.Lines.{find, total, affords};
 ghost use Rattle.store.specs.Words.{counted};

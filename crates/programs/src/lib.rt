@@ -1,4 +1,7 @@
 //! What the programs share. No contract says what is read from a file or printed.
+
+#![tactic(auto)]
+
 use refusals::Refusal;
 use std::fs;
 use std::io::ErrorKind;

@@ -1,6 +1,9 @@
 //! The grammar of proof text, and theorems about it.
 //!
 //! Each function's contract is its theorem; the functions themselves do nothing.
+
+#![tactic(auto)]
+
 ghost use Rattle.proofgrammar.specs.Claims.{OneReading, OneNext};
 
 /// A text begins with at most one proof line.

@@ -1,4 +1,7 @@
 //! Proof text, read line by line into lent rows.
+
+#![tactic(auto)]
+
 pub mod item;
 mod lines;
 mod lists;

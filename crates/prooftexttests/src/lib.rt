@@ -1,4 +1,7 @@
 //! Edges of proof text, as tables of examples.
+
+#![tactic(auto)]
+
 #[cfg(test)]
 mod tests {
     use prooftext::{Item, Reader};

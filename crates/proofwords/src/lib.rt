@@ -1,4 +1,7 @@
 //! The words of a proof text: the byte, the number or the literal at a place of the text.
+
+#![tactic(auto)]
+
 pub mod words;
 
 pub use words::{read_literal, read_number, stands};

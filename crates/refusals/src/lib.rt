@@ -1,4 +1,7 @@
 //! What a call refuses, as one list for the whole project.
+
+#![tactic(auto)]
+
 ghost use Rattle.std.specs.Prelude.{◌≡◌, Some};
 ghost use Rattle.refusals.specs.Numbers.{number as number_of};
 ghost use Rattle.refusals.specs.Words.{words as words_of, failure_words};

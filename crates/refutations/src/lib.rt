@@ -1,6 +1,9 @@
 //! Theorems: what follows by hints holds, and a formula that nothing satisfies has a refuting list.
 //!
 //! Each function's contract is its theorem; the functions themselves do nothing.
+
+#![tactic(auto)]
+
 ghost use Rattle.refutations.specs.Claims.{Sound, RefutedIffListed};
 ghost use Rattle.refutations.specs.Words.{MarksInWords, LineInWords, ReadingInWords, HintsInWords};
 

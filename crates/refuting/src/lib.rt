@@ -1,4 +1,7 @@
 //! A refutation under way: lines and strikes, judged one after the other.
+
+#![tactic(auto)]
+
 ghost use Rattle.std.specs.Prelude.{◌≡◌, [], length};
 ghost use Rattle.hints.specs.Bytes.{cleared};
 ghost use Rattle.refuting.specs.Claims.{Holds};

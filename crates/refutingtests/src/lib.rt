@@ -1,4 +1,7 @@
 //! A refutation of four clauses over two variables, with a shelf for one line and with the two shelves: tables of examples.
+
+#![tactic(auto)]
+
 pub mod lone;
 pub mod square;
 

@@ -1,4 +1,7 @@
 //! The run of a board over rows of inputs: its frames up to the first bad one, and what is told of them.
+
+#![tactic(auto)]
+
 pub mod fault;
 pub mod rows;
 pub mod text;

@@ -1,4 +1,7 @@
 //! Edges of the two shelves, as tables of examples.
+
+#![tactic(auto)]
+
 #[cfg(test)]
 mod tests {
     use clauses::ClauseSource;

@@ -1,4 +1,7 @@
 //! A shelf of slots for 32 literals.
+
+#![tactic(auto)]
+
 ghost use Rattle.std.specs.Prelude.{◌≡◌, ◌*◌, ◌≤◌, true, [], IfOk};
 ghost use Rattle.shelf.specs.Lines.{find, total, affords};
 ghost use Rattle.slots.specs.Rule.{slots_in, slot_cost, short};

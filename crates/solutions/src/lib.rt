@@ -1,6 +1,9 @@
 //! Theorems about boards of any size and runs of any length: least solutions, the rounds that find them, the frames of a run.
 //!
 //! Each function's contract is its theorem; the functions themselves do nothing.
+
+#![tactic(auto)]
+
 ghost use Rattle.solutions.specs.Claims.{FramesEnd, LeastUnique, LanesApart, FramesExist, FramesUnique, FirstBad};
 
 use values::ValueKind;

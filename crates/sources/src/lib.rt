@@ -1,4 +1,7 @@
 //! The formulas of a board as clause sources: each clause is worked out when it is asked for.
+
+#![tactic(auto)]
+
 pub mod formula;
 mod frames;
 mod locate;

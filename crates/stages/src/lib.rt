@@ -1,4 +1,7 @@
 //! The stages of a case: how far the judging of a board has come, and which event leads where.
+
+#![tactic(auto)]
+
 ghost use Rattle.std.specs.Prelude.{◌≡◌, is_some, if◌then◌else◌, Ok, Err};
 ghost use Rattle.std.specs.Option.{unwrap_or};
 ghost use Rattle.refusals.specs.declared.Refusal.TheVariants.{Stage as StageRefused};

@@ -1,4 +1,7 @@
 //! Lines in one row, in rising order of number, with room that is reserved when the store is made.
+
+#![tactic(auto)]
+
 mod edits;
 pub mod entry;
 mod keeping;

@@ -1,3 +1,5 @@
+#![tactic(auto)]
+
 // Compares whole texts of formulas with stored ones, which tools/reference_formulas.py made apart from the code.
 use boards::Drawing;
 use dimacs::{dimacs_text, tell_formula};

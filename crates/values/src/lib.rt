@@ -1,4 +1,7 @@
 //! Values of wires: what a value kind is, the single kind, and the lane kind.
+
+#![tactic(auto)]
+
 pub mod kind;
 pub mod lanes;
 pub mod single;

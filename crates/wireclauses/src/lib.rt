@@ -1,4 +1,7 @@
 //! The clauses of one wire in one frame, worked out from its gate.
+
+#![tactic(auto)]
+
 pub mod frame;
 pub mod literals;
 pub mod sides;
