@@ -1,7 +1,7 @@
 use Rattle.std.proofs.Common.{refl, rules}
 use Rattle.gates.proofs.FirstRecord.{first_at, none_at}
 use Rattle.gates.proofs.records.take_record.Goals as goal
-use Rattle.gates.proofs.records.take_record.Goals.{in-default-via-then-bytes-lt1, in-default-via-else-bytes-lt1+then-bytes-lt2+in-default·, in-default-via-else-bytes-lt1+else-bytes-lt2+then-bytes-lt3+in-default·, in-default-via-else-bytes-lt1+else-bytes-lt2+else-bytes-lt3+in-default·}
+use Rattle.gates.proofs.records.take_record.Goals.{in_default-via-then-bytes-lt1, in_default-via-else-bytes-lt1+then-bytes-lt2+in_default-1, in_default-via-else-bytes-lt1+else-bytes-lt2+then-bytes-lt3+in_default-1, in_default-via-else-bytes-lt1+else-bytes-lt2+else-bytes-lt3+in_default-1}
 
 pub returns-in-0 : goal.returns-in-0
 returns-in-0 c = first_at 0 c.args.bytes.now refl (search rules) (search rules)
@@ -33,11 +33,11 @@ returns-in-8 c = first_at 8 c.args.bytes.now refl (search rules) (search rules)
 pub returns-in-9 : goal.returns-in-9
 returns-in-9 c = first_at 9 c.args.bytes.now refl (search rules) (search rules)
 
-pub returns-in-default : goal.returns-in-default
-returns-in-default c =
-    elim c.in-default.branch [
-      | in-default-via-then-bytes-lt1 w ↦ none_at c.args.bytes.now (search rules) (search rules) (search rules)
-      | in-default-via-else-bytes-lt1+then-bytes-lt2+in-default· w ↦ none_at c.args.bytes.now (search rules) (search rules) (search rules)
-      | in-default-via-else-bytes-lt1+else-bytes-lt2+then-bytes-lt3+in-default· w ↦ none_at c.args.bytes.now (search rules) (search rules) (search rules)
-      | in-default-via-else-bytes-lt1+else-bytes-lt2+else-bytes-lt3+in-default· w ↦ none_at c.args.bytes.now (search rules) (search rules) (search rules)
+pub returns-in_default : goal.returns-in_default
+returns-in_default c =
+    elim c.in_default.branch [
+      | in_default-via-then-bytes-lt1 w ↦ none_at c.args.bytes.now (search rules) (search rules) (search rules)
+      | in_default-via-else-bytes-lt1+then-bytes-lt2+in_default-1 w ↦ none_at c.args.bytes.now (search rules) (search rules) (search rules)
+      | in_default-via-else-bytes-lt1+else-bytes-lt2+then-bytes-lt3+in_default-1 w ↦ none_at c.args.bytes.now (search rules) (search rules) (search rules)
+      | in_default-via-else-bytes-lt1+else-bytes-lt2+else-bytes-lt3+in_default-1 w ↦ none_at c.args.bytes.now (search rules) (search rules) (search rules)
     ]
