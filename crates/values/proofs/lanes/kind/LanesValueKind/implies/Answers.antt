@@ -5,8 +5,11 @@ use Rattle.values.specs.Bits.{bit_of_and, bit_of_or}
 use Rattle.values.specs.ByLane.{fields, lanes_are, by_lanes₂}
 use Rattle.values.proofs.lanes.kind.LanesValueKind.implies.Goals as goal
 
-pub invariant-of-result : goal.invariant-of-result
-invariant-of-result c = fields _ _ (search rules) (search (rules, or_lt)) (λ k. by_lanes₂ c.args.self c.args.other k _
+pub invariant_of-result-clause-words : goal.invariant_of-result-clause-words
+invariant_of-result-clause-words c = (search rules, search (rules, or_lt))
+
+pub invariant_of-result-clause-apart : goal.invariant_of-result-clause-apart
+invariant_of-result-clause-apart c = (fields _ _ (invariant_of-result-clause-words c).0 (invariant_of-result-clause-words c).1 (λ k. by_lanes₂ c.args.self c.args.other k _
     (λ a b d e. simp (bit_of_and, bit_of_or, a, b, d, e))
     (λ a b d e. simp (bit_of_and, bit_of_or, a, b, d, e))
     (λ a b d e. simp (bit_of_and, bit_of_or, a, b, d, e))
@@ -15,7 +18,7 @@ invariant-of-result c = fields _ _ (search rules) (search (rules, or_lt)) (λ k.
     (λ a b d e. simp (bit_of_and, bit_of_or, a, b, d, e))
     (λ a b d e. simp (bit_of_and, bit_of_or, a, b, d, e))
     (λ a b d e. simp (bit_of_and, bit_of_or, a, b, d, e))
-    (λ a b d e. simp (bit_of_and, bit_of_or, a, b, d, e)))
+    (λ a b d e. simp (bit_of_and, bit_of_or, a, b, d, e)))).1.0
 
 pub returns : goal.returns
 returns c = lanes_are _ _ (λ k l. by_lanes₂ c.args.self c.args.other k _
