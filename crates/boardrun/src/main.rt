@@ -35,7 +35,7 @@ fn run(rt: &HostRuntime) -> anyhow::Result<()> {
     match trace(heap, &board, rows.as_slice()) {
         Ok(trace) => show(rt, &board, &trace),
         Err(Failure::Refused(refusal)) => refuse(rt, refusal),
-        Err(failure) => Err(failure.words().into()),
+        Err(failure) => Err(anyhow::Error::msg(failure.words())),
     }
 }
 

@@ -23,5 +23,5 @@ pub fn read_or_empty(rt: &HostRuntime, name: &str) -> anyhow::Result<Vec<u8>> {
 pub fn refuse(rt: &HostRuntime, refusal: Refusal) -> anyhow::Result<()> {
     let number = refusal.number();
     println!(rt; "refused {number}")?;
-    Err(refusal.words().into())
+    Err(anyhow::Error::msg(refusal.words()))
 }
