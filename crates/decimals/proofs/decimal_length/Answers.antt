@@ -12,8 +12,8 @@ overflow_add-length c =
 pub digits-preserved : goal.digits-preserved
 digits-preserved c =
     let small : c.args.number < 2 ^ 32 = search rules in
-    let step = length_step c.digits.rest c.digits-test.true (omega arith) in
+    let step = length_step c.digits.rest (omega arith) (omega arith) in
     omega arith
 
 pub returns : goal.returns
-returns c = let last = length_digit c.digits.rest c.digits-test.false in omega arith
+returns c = let last = length_digit c.digits.rest (omega arith) in omega arith
