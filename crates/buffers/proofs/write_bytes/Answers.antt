@@ -7,5 +7,5 @@ pub returns : goal.returns
 returns c =
     record {
       answer = grind (arith, nat_tests);
-      after = put_is c.args.at c.args.buffer.now c.copy-from-slice.new.self c.args.bytes.now c.copy-from-slice.ensures.after;
+      after = put_is c.args.at c.args.buffer.now c.copy_from_slice.new.self c.args.bytes.now c.copy_from_slice.ensures.after;
     }

@@ -10,6 +10,6 @@ returns c =
     let at = c.args.at in
     record {
       answer = grind (arith, nat_tests);
-      after = ap (λ n. put_mid at ((at + n) - at) c.args.buffer.now c.put-digits.new.digits) c.decimal-length-length.ensures
-          ∙ put_is at c.args.buffer.now c.put-digits.new.digits (text_of c.args.number) c.put-digits.ensures;
+      after = ap (λ n. put_mid at ((at + n) - at) c.args.buffer.now c.put_digits.new.digits) c.decimal_length-length.ensures
+          ∙ put_is at c.args.buffer.now c.put_digits.new.digits (text_of c.args.number) c.put_digits.ensures;
     }
