@@ -1,5 +1,5 @@
 -- The algebra of the lines kept.
-use Rattle.std.proofs.Common.{◌≡◌, ℕ, ◌+◌, ◌<◌, ◌≤◌, Bool, true, false, cond, eqb, ltb, List, [], ◌∷◌, length, Some, None, Option, unwrap_or, sym, refl, ap, ◌∙◌, arith}
+use Rattle.std.proofs.Common.{◌≡◌, ℕ, ◌+◌, ◌<◌, ◌≤◌, Bool, true, false, cond, eqb, ltb, [], ◌∷◌, length, Some, None, Option, unwrap_or, sym, refl, ap, ◌∙◌, arith}
 use mathlib.Core.Path.{fun_ext}
 use Rattle.std.specs.List.{AllByRecursion as All}
 use Rattle.std.specs.Map.{update}
@@ -59,12 +59,21 @@ find_remove n (x ∷ xs) k = here (eqb n x.0) refl (find_remove n xs k)
     here false e later =
         ap (cond (eqb k x.0) (Some x.1)) later ∙ swapped (Some x.1) None (find xs k) (eqb k x.0) (eqb k n) (apart n x.0 k e)
 
+eqb_swap : (a b : ℕ) → eqb a b ≡ eqb b a
+eqb_swap a b = go (eqb a b) refl (eqb b a) refl
+  where
+    go : (s : Bool) → eqb a b ≡ s → (t : Bool) → eqb b a ≡ t → s ≡ t
+    go true e true f = refl
+    go true e false f = absurd (eqb-false b a f (sym (eqb-true a b e)))
+    go false e true f = absurd (eqb-false a b e (sym (eqb-true b a f)))
+    go false e false f = refl
+
 -- the same for the map as a whole
 pub map_insert : (n : ℕ) (c : Clause) (xs : Lines) → find xs n ≡ None → find (insert n c xs) ≡ update eqb (find xs) n (Some c)
-map_insert n c xs free = fun_ext (find_insert n c xs free)
+map_insert n c xs free = fun_ext (λ k. find_insert n c xs free k ∙ ap (λ b. cond b (Some c) (find xs k)) (eqb_swap k n))
 
 pub map_remove : (n : ℕ) (xs : Lines) → find (remove n xs) ≡ update eqb (find xs) n None
-map_remove n xs = fun_ext (find_remove n xs)
+map_remove n xs = fun_ext (λ k. find_remove n xs k ∙ ap (λ b. cond b None (find xs k)) (eqb_swap k n))
 
 -- ---- the lines stay in order
 

@@ -1,5 +1,5 @@
 ghost use Rattle.std.specs.Prelude.{◌≡◌};
-ghost use Rattle.std.proofs.Common.{◌∙◌, rules};
+ghost use Rattle.std.proofs.Common.{◌∙◌, refl};
 ghost use Rattle.shelf.specs.Premises.{of_formula, premises};
 ghost use Rattle.shelf.specs.Pairs.{premises_same};
 
@@ -27,7 +27,7 @@ impl<F: ClauseSource, S: Shelf> ClauseSource for Premises<F, S> {
 
     ghost steady = { λ p q. (q.count ≡ p.count) × F.ClauseSource.steady p.formula q.formula × S.ClauseSource.steady p.shelf q.shelf };
 
-    ghost stays = { Prim.search rules };
+    ghost stays = { λ p. (refl, F.ClauseSource.stays p.formula, S.ClauseSource.stays p.shelf) };
 
     ghost goes_on = { λ x y z p q. (
       q.0 ∙ p.0,
