@@ -14,8 +14,8 @@ rounds-init g c =
     let row = c.clear.ensures ∙ ap (λ n. replicate n K.undefined) c.requires.size in
     subst (λ xs. Counting K gs G 0 xs) (sym row) (counting_none K g.met.V.ValueKind.lawful gs c.requires.own G)
 
-pub overflow-add-rounds : goal.overflow-add-rounds
-overflow-add-rounds g c =
+pub overflow_add-rounds : goal.overflow_add-rounds
+overflow_add-rounds g c =
     let K = g.V.ValueKind.meaning in
     let L = g.met.V.ValueKind.lawful in
     let gs = c.args.gates.now in

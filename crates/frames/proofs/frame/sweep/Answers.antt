@@ -8,7 +8,7 @@ use Rattle.solutions.proofs.Rows.{changed_none}
 use Rattle.frames.specs.Frames.{frame_given}
 use Rattle.frames.proofs.Sweeping.{turn_value, turn_row, turn_changed}
 use Rattle.frames.proofs.frame.sweep.Goals as goal
-use Rattle.frames.proofs.frame.sweep.Goals.{then-is-input, else-is-input}
+use Rattle.frames.proofs.frame.sweep.Goals.{then-is_input, else-is_input}
 
 pub wires-init : goal.wires-init
 wires-init g c =
@@ -33,7 +33,7 @@ wires-preserved g c =
     let after = turn_row K L gs inputs before xs w row is c.wanted-value.result value in
     let changed = turn_changed K L gs inputs before xs w row is c.wanted-value.result c.index-row-wire.result c.wires.changed c.same.result within value c.index-row-wire.is c.same.ensures c.wires.invariant.3 in
     let count = count_turn is_input gs w c.wires-test.true in
-    elim c.if-is-input.branch [ then-is-input e ↦ (grind arith, grind arith, after, changed) | else-is-input e ↦ (grind arith, grind arith, after, changed) ]
+    elim c.if-is_input.branch [ then-is_input e ↦ (grind arith, grind arith, after, changed) | else-is_input e ↦ (grind arith, grind arith, after, changed) ]
 
 pub returns : goal.returns
 returns g c =
