@@ -1,12 +1,12 @@
 -- A proof line has one reading.
-use Rattle.std.proofs.Common.{◌≡◌, ℕ, suc, ◌<◌, ◌≤◌, ◌≢◌, List, [], ◌∷◌, ◌++◌, length, drop, ℤ, pos, negsuc, sym, refl, ap, ◌∙◌, arith}
+use Rattle.std.proofs.Common.{◌≡◌, ℕ, ◌<◌, ◌≤◌, ◌≢◌, List, [], ◌∷◌, ◌++◌, length, drop, ℤ, pos, negsuc, sym, refl, ap, ◌∙◌, arith}
 use Rattle.std.specs.Fmt.{signed_decimal}
 use Rattle.std.specs.List.{AllByRecursion as All}
 use Rattle.std.proofs.lemmas.List.{append_assoc, length-append}
 use Rattle.std.proofs.lemmas.Fmt.{decimal_nonempty}
-use Rattle.clauses.specs.Clauses.{Clause, variable}
+use Rattle.clauses.specs.Clauses.{Clause}
 use Rattle.decimals.specs.Decimals.{text_of}
-use Rattle.proofgrammar.specs.Grammar.{Entry, line, strike, Number, Literal, Proper, words, list_text, line_text, Next, end, entry, other}
+use Rattle.proofgrammar.specs.Grammar.{Entry, line, strike, Number, Literal, Proper, words, list_text, line_text, end, entry, other}
 use Rattle.proofgrammar.specs.Parts.{line_body, strike_body}
 use Rattle.proofgrammar.specs.Claims.{OneReading, OneNext}
 use Rattle.proofgrammar.proofs.Words.{numbers, literals, one_number, digit_not, one_list, word_first}

@@ -1,10 +1,10 @@
 -- A proof line is read part by part.
-use Rattle.std.proofs.Common.{◌≡◌, ℕ, ◌+◌, ◌<◌, ◌≤◌, true, false, ◌≢◌, List, [], ◌∷◌, ◌++◌, length, drop, Some, None, sym, refl, ap, ◌∙◌, arith}
+use Rattle.std.proofs.Common.{◌≡◌, ℕ, ◌+◌, ◌≤◌, true, false, List, ◌∷◌, ◌++◌, length, drop, Some, None, sym, refl, ap, ◌∙◌, arith}
 use Rattle.std.specs.Fmt.{signed_decimal}
 use Rattle.std.specs.List.{AllByRecursion as All}
 use Rattle.clauses.specs.Clauses.{Clause}
 use Rattle.decimals.specs.Decimals.{text_of}
-use Rattle.proofgrammar.specs.Grammar.{Entry, line, strike, Number, Literal, words, line_text}
+use Rattle.proofgrammar.specs.Grammar.{line, strike, Number, Literal, words}
 use Rattle.proofgrammar.specs.Parts.{Stops, tail_text, line_body, strike_tail, strike_body}
 use Rattle.proofgrammar.proofs.Words.{numbers, literals, one_number, one_list}
 use Rattle.proofgrammar.proofs.Lines.{line_open, strike_open, line_not_d, one_front}

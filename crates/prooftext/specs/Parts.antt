@@ -4,7 +4,7 @@ use Rattle.std.specs.List.{AllByRecursion as All}
 use Rattle.clauses.specs.Clauses.{Clause}
 use Rattle.decimals.specs.Decimals.{text_of}
 use Rattle.proofgrammar.specs.Grammar.{Number, Literal}
-use Rattle.proofgrammar.specs.Parts.{tail_text, line_body, strike_body}
+use Rattle.proofgrammar.specs.Parts.{line_body}
 use Rattle.prooftext.specs.Lists.{Held}
 use Rattle.prooftext.specs.Rows.{Rows}
 

@@ -12,28 +12,28 @@ returns-then-place-self c =
     let both = read_end me.text.now before zeros (c.clear.ensures.literals, c.clear.ensures.numbers) (omega (arith, c.if-place-self.true)) in
     record { text = refl; read = both.0; again = both.1 }
 
-pub returns-in-default : goal.returns-in-default
-returns-in-default c =
+pub returns-in_default : goal.returns-in_default
+returns-in_default c =
     let me = c.args.self.now in
     let before = state me.place (rows c.args.literals.now c.args.numbers.now) in
     let zeros = rows c.clear.new.literals c.clear.new.numbers in
     let after = rows c.read_line.new.literals c.read_line.new.numbers in
-    let left = rows c.clear-in-default.new.literals c.clear-in-default.new.numbers in
+    let left = rows c.clear-in_default.new.literals c.clear-in_default.new.numbers in
     let both = read_other me.text.now before zeros after (c.clear.ensures.literals, c.clear.ensures.numbers) (c.read_line.auto.literals ∙ c.clear.auto.literals)
-    (c.read_line.auto.numbers ∙ c.clear.auto.numbers) left (c.clear-in-default.ensures.literals, c.clear-in-default.ensures.numbers) (omega (arith, c.if-place-self.false))
-    c.in-default.ensures in
+    (c.read_line.auto.numbers ∙ c.clear.auto.numbers) left (c.clear-in_default.ensures.literals, c.clear-in_default.ensures.numbers) (omega (arith, c.if-place-self.false))
+    c.in_default.ensures in
     record { text = refl; read = both.0; again = both.1 }
 
-pub returns-then-not-has-room : goal.returns-then-not-has-room
-returns-then-not-has-room c =
+pub returns-then-not-has_room : goal.returns-then-not-has_room
+returns-then-not-has_room c =
     let me = c.args.self.now in
     let before = state me.place (rows c.args.literals.now c.args.numbers.now) in
     let zeros = rows c.clear.new.literals c.clear.new.numbers in
     let after = rows c.read_line.new.literals c.read_line.new.numbers in
-    let left = rows c.clear-then-not-has-room.new.literals c.clear-then-not-has-room.new.numbers in
+    let left = rows c.clear-then-not-has_room.new.literals c.clear-then-not-has_room.new.numbers in
     let both = read_short me.text.now before zeros after (c.clear.ensures.literals, c.clear.ensures.numbers) (c.read_line.auto.literals ∙ c.clear.auto.literals)
-    (c.read_line.auto.numbers ∙ c.clear.auto.numbers) c.in-Some.item c.in-Some.next c.in-Some.ensures c.has-room.result c.has-room.ensures
-    left (c.clear-then-not-has-room.ensures.literals, c.clear-then-not-has-room.ensures.numbers) c.if-not-has-room.true in
+    (c.read_line.auto.numbers ∙ c.clear.auto.numbers) c.in-Some.item c.in-Some.next c.in-Some.ensures c.has_room.result c.has_room.ensures
+    left (c.clear-then-not-has_room.ensures.literals, c.clear-then-not-has_room.ensures.numbers) c.if-not-has_room.true in
     record { text = refl; read = both.0; again = both.1 }
 
 pub returns : goal.returns
@@ -43,6 +43,6 @@ returns c =
     let zeros = rows c.clear.new.literals c.clear.new.numbers in
     let after = rows c.read_line.new.literals c.read_line.new.numbers in
     let both = read_line me.text.now before zeros after (c.clear.ensures.literals, c.clear.ensures.numbers) (c.read_line.auto.literals ∙ c.clear.auto.literals)
-    (c.read_line.auto.numbers ∙ c.clear.auto.numbers) c.in-Some.item c.in-Some.next c.in-Some.ensures c.has-room.result c.has-room.ensures
-    c.if-not-has-room.false in
+    (c.read_line.auto.numbers ∙ c.clear.auto.numbers) c.in-Some.item c.in-Some.next c.in-Some.ensures c.has_room.result c.has_room.ensures
+    c.if-not-has_room.false in
     record { text = refl; read = both.0; again = both.1 }
