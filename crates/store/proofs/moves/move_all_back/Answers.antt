@@ -5,8 +5,8 @@ use Rattle.store.specs.Rows.{earlier}
 use Rattle.store.proofs.Shifts.{over_read, over_more, over_all}
 use Rattle.store.proofs.moves.move_all_back.Goals as goal
 
-pub overflow-sub-entry : goal.overflow-sub-entry
-overflow-sub-entry c =
+pub overflow_sub-entry : goal.overflow_sub-entry
+overflow_sub-entry c =
     let i = c.loop-entry.entry-index in
     let d : Entry = record { number = 0; start = 0; length = 0 } in
     let here = All-get_or (λ e. c.args.by ≤ e.start) c.args.entries.now i d c.loop-entry-test.true c.requires in

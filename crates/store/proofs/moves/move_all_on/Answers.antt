@@ -5,8 +5,8 @@ use Rattle.store.specs.Rows.{later}
 use Rattle.store.proofs.Shifts.{over_read, over_more, over_all}
 use Rattle.store.proofs.moves.move_all_on.Goals as goal
 
-pub overflow-add-entry : goal.overflow-add-entry
-overflow-add-entry c =
+pub overflow_add-entry : goal.overflow_add-entry
+overflow_add-entry c =
     let i = c.loop-entry.entry-index in
     let d : Entry = record { number = 0; start = 0; length = 0 } in
     let here = All-get_or (λ e. e.start + c.args.by < 2 ^ 64) c.args.entries.now i d c.loop-entry-test.true c.requires in

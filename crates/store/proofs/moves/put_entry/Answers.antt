@@ -4,12 +4,12 @@ use Rattle.store.specs.Rows.{later}
 use Rattle.store.proofs.Shifts.{all_behind, entry_put}
 use Rattle.store.proofs.moves.put_entry.Goals as goal
 
-pub move-on-requires : goal.move-on-requires
-move-on-requires c =
+pub move_on-requires : goal.move_on-requires
+move_on-requires c =
     let row = c.args.entries.now in
     let long : row.len ≡ length row.items = search rules in (
-      omega (arith, c.as-mut-slice.ensures.len),
-      all_behind (λ e. e.start + c.args.entry.length < 2 ^ 64) row.items c.as-mut-slice.result.now c.args.at c.as-mut-slice.ensures.value c.requires.1.1,
+      omega (arith, c.as_mut_slice.ensures.len),
+      all_behind (λ e. e.start + c.args.entry.length < 2 ^ 64) row.items c.as_mut_slice.result.now c.args.at c.as_mut_slice.ensures.value c.requires.1.1,
     )
 
 pub returns : goal.returns
@@ -19,6 +19,6 @@ returns c =
     let ok : is_ok c.insert.result ≡ true = c.insert.ensures.succeeds c.requires.1.0 in
     record {
       items = c.insert.ensures.items ∙ cond-true (is_ok c.insert.result) _ _ ok
-          ∙ entry_put (later c.args.entry.length) row.items c.as-mut-slice.result.now c.move-on.new.entries c.args.at row.len c.args.entry c.as-mut-slice.ensures.value (omega arith) long c.move-on.ensures;
+          ∙ entry_put (later c.args.entry.length) row.items c.as_mut_slice.result.now c.move_on.new.entries c.args.at row.len c.args.entry c.as_mut_slice.ensures.value (omega arith) long c.move_on.ensures;
       room = c.insert.ensures.capacity;
     }

@@ -6,14 +6,14 @@ use Rattle.store.proofs.moves.put_in.Goals as goal
 pub returns : goal.returns
 returns c =
     let row = c.args.row.now in
-    let after = c.extend-from-slice.new.self in
+    let after = c.extend_from_slice.new.self in
     let cs = c.args.literals.now in
     let long : vec_len row ≡ length (vec_items row) = search rules in
     let longer : after.len ≡ length after.items = search rules in
-    let ok : is_ok c.extend-from-slice.result ≡ true = c.extend-from-slice.ensures.succeeds c.requires.1 in
+    let ok : is_ok c.extend_from_slice.result ≡ true = c.extend_from_slice.ensures.succeeds c.requires.1 in
     let joined : after.items ≡ vec_items row ++ cs =
-    c.extend-from-slice.ensures.items ∙ cond-true (is_ok c.extend-from-slice.result) (vec_items row ++ cs) (vec_items row) ok in
+    c.extend_from_slice.ensures.items ∙ cond-true (is_ok c.extend_from_slice.result) (vec_items row ++ cs) (vec_items row) ok in
     record {
-      items = put_in (vec_items row) cs after.items c.as-mut-slice.result.now c.turn.new.row c.args.at (c.len-end.result - c.args.at) after.len joined c.as-mut-slice.ensures.value (omega arith) (omega arith) longer c.turn.ensures;
-      room = c.extend-from-slice.ensures.capacity;
+      items = put_in (vec_items row) cs after.items c.as_mut_slice.result.now c.turn.new.row c.args.at (c.len-end.result - c.args.at) after.len joined c.as_mut_slice.ensures.value (omega arith) (omega arith) longer c.turn.ensures;
+      room = c.extend_from_slice.ensures.capacity;
     }

@@ -4,16 +4,16 @@ use Rattle.store.specs.Rows.{earlier}
 use Rattle.store.proofs.Shifts.{all_left, entry_taken}
 use Rattle.store.proofs.moves.take_entry.Goals as goal
 
-pub move-back-requires : goal.move-back-requires
-move-back-requires c =
+pub move_back-requires : goal.move_back-requires
+move_back-requires c =
     let row = c.args.entries.now in
     let left = c.remove.new.self in
     let long : row.len ≡ length row.items = search rules in
     let shorter : left.len ≡ length left.items = search rules in
     let next : c.args.at + 1 ≡ suc c.args.at = omega arith in
     let behind : All (λ e. c.args.by ≤ e.start) (drop (suc c.args.at) row.items) = rw next at c.requires.1 in (
-      omega (arith, c.as-mut-slice.ensures.len, c.remove.ensures.len),
-      all_left (λ e. c.args.by ≤ e.start) row.items left.items c.as-mut-slice.result.now c.args.at c.remove.ensures.items c.as-mut-slice.ensures.value (omega arith) behind,
+      omega (arith, c.as_mut_slice.ensures.len, c.remove.ensures.len),
+      all_left (λ e. c.args.by ≤ e.start) row.items left.items c.as_mut_slice.result.now c.args.at c.remove.ensures.items c.as_mut_slice.ensures.value (omega arith) behind,
     )
 
 pub returns : goal.returns
@@ -24,7 +24,7 @@ returns c =
     let shorter : left.len ≡ length left.items = search rules in
     let next : suc c.args.at ≡ c.args.at + 1 = omega arith in
     record {
-      items = entry_taken (earlier c.args.by) row.items left.items c.as-mut-slice.result.now c.move-back.new.entries c.args.at left.len c.remove.ensures.items c.as-mut-slice.ensures.value (omega arith) shorter c.move-back.ensures
+      items = entry_taken (earlier c.args.by) row.items left.items c.as_mut_slice.result.now c.move_back.new.entries c.args.at left.len c.remove.ensures.items c.as_mut_slice.ensures.value (omega arith) shorter c.move_back.ensures
           ∙ ap (λ k. take c.args.at row.items ++ map (earlier c.args.by) (drop k row.items)) next;
       room = c.remove.ensures.capacity;
     }

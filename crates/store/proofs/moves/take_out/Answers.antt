@@ -8,6 +8,6 @@ returns c =
     let long : row.len ≡ length row.items = search rules in
     record {
       items = c.truncate.ensures.items
-          ∙ taken_out row.items c.as-mut-slice.result.now c.turn.new.row c.args.at c.args.count row.len (c.len.result - c.args.count) c.as-mut-slice.ensures.value (omega arith) long (omega arith) c.turn.ensures;
+          ∙ taken_out row.items c.as_mut_slice.result.now c.turn.new.row c.args.at c.args.count row.len (c.len.result - c.args.count) c.as_mut_slice.ensures.value (omega arith) long (omega arith) c.turn.ensures;
       room = c.truncate.ensures.capacity;
     }

@@ -10,16 +10,16 @@ use Rattle.store.proofs.store.Store.insert.Goals as goal
 pub start-start-requires : goal.start-start-requires
 start-start-requires c = omega (arith, c.requires.place, place_within c.args.number (lines_of c.args.self.now))
 
-pub put-in-requires : goal.put-in-requires
-put-in-requires c =
+pub put_in-requires : goal.put_in-requires
+put_in-requires c =
     let s = c.args.self.now in
     let long : s.row.len ≡ length s.row.items = search rules in
     let all = all_lengths s.entries.items 0 (length s.row.items) s.tight in
     let sum = literals_cut s.entries.items s.row.items (omega arith) in
     (c.start-start.ensures.within, omega (arith, c.requires.literals))
 
-pub put-entry-requires : goal.put-entry-requires
-put-entry-requires c =
+pub put_entry-requires : goal.put_entry-requires
+put_entry-requires c =
     let s = c.args.self.now in
     let es = s.entries.items in
     let k = length c.args.literals.now in
@@ -34,13 +34,13 @@ put-entry-requires c =
       (omega (arith, c.requires.lines, length_cut es s.row.items), All-drop (λ e. e.start + k < 2 ^ 64) c.args.at es behind),
     )
 
-pub invariant-of-self : goal.invariant-of-self
-invariant-of-self c =
+pub invariant_of-self : goal.invariant_of-self
+invariant_of-self c =
     let s = c.args.self.now in
     let e : Entry = record { number = c.args.number; start = c.start-start.result; length = length c.args.literals.now } in
     let before : Sound s.entries.items s.row.items = record { rising = s.rising; tight = s.tight } in
-    let after = put_sound s.entries.items c.put-entry.new.entries.items s.row.items c.put-in.new.row.items c.args.literals.now c.args.at e before c.requires.place c.requires.free c.start-start.ensures.is refl c.put-entry.ensures.items c.put-in.ensures.items in
-    (after.rising, (after.tight, tt))
+    let after = put_sound s.entries.items c.put_entry.new.entries.items s.row.items c.put_in.new.row.items c.args.literals.now c.args.at e before c.requires.place c.requires.free c.start-start.ensures.is refl c.put_entry.ensures.items c.put_in.ensures.items in
+    record { rising = after.rising; tight = after.tight }
 
 pub returns : goal.returns
 returns c =
@@ -48,6 +48,6 @@ returns c =
     let e : Entry = record { number = c.args.number; start = c.start-start.result; length = length c.args.literals.now } in
     let before : Sound s.entries.items s.row.items = record { rising = s.rising; tight = s.tight } in
     record {
-      lines = put_lines s.entries.items c.put-entry.new.entries.items s.row.items c.put-in.new.row.items c.args.literals.now c.args.at e before c.requires.place c.requires.free c.start-start.ensures.is refl c.put-entry.ensures.items c.put-in.ensures.items;
-      room = (c.put-entry.ensures.room, c.put-in.ensures.room);
+      lines = put_lines s.entries.items c.put_entry.new.entries.items s.row.items c.put_in.new.row.items c.args.literals.now c.args.at e before c.requires.place c.requires.free c.start-start.ensures.is refl c.put_entry.ensures.items c.put_in.ensures.items;
+      room = (c.put_entry.ensures.room, c.put_in.ensures.room);
     }

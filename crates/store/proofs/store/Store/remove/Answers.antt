@@ -12,16 +12,16 @@ index-entry-requires c =
     let some : s.entries.len ≡ length s.entries.items = search rules in
     omega (arith, c.requires, length_cut s.entries.items s.row.items)
 
-pub take-out-requires : goal.take-out-requires
-take-out-requires c =
+pub take_out-requires : goal.take_out-requires
+take_out-requires c =
     let s = c.args.self.now in
     let e = c.index-entry.result.now in
     let long : s.row.len ≡ length s.row.items = search rules in
     let ends = entry_ends s.entries.items 0 (length s.row.items) c.args.at e s.tight (omega (arith, c.requires, length_cut s.entries.items s.row.items)) in
     omega (arith, ends.0, ap (λ x. x.start + x.length) c.index-entry.ensures)
 
-pub take-entry-requires : goal.take-entry-requires
-take-entry-requires c =
+pub take_entry-requires : goal.take_entry-requires
+take_entry-requires c =
     let s = c.args.self.now in
     let es = s.entries.items in
     let e = c.index-entry.result.now in
@@ -34,8 +34,8 @@ take-entry-requires c =
     All-weaker (λ f. (get_or es at e).length ≤ f.start) (λ f. e.length ≤ f.start) (λ f h. omega arith) (drop (suc at) es) (all_behind_line es at (length s.row.items) e inside s.tight) in
     (omega arith, rw next at behind)
 
-pub invariant-of-self : goal.invariant-of-self
-invariant-of-self c =
+pub invariant_of-self : goal.invariant_of-self
+invariant_of-self c =
     let s = c.args.self.now in
     let es = s.entries.items in
     let e = c.index-entry.result.now in
@@ -43,9 +43,9 @@ invariant-of-self c =
     let inside : at < length es = omega (arith, c.requires, length_cut es s.row.items) in
     let next : at + 1 ≡ suc at = omega arith in
     let before : Sound es s.row.items = record { rising = s.rising; tight = s.tight } in
-    let left = c.take-entry.ensures.items ∙ ap (λ k. take at es ++ map (earlier e.length) (drop k es)) next in
-    let after = taken_sound es c.take-entry.new.entries.items s.row.items c.take-out.new.row.items at e before inside c.index-entry.ensures left c.take-out.ensures.items in
-    (after.rising, (after.tight, tt))
+    let left = c.take_entry.ensures.items ∙ ap (λ k. take at es ++ map (earlier e.length) (drop k es)) next in
+    let after = taken_sound es c.take_entry.new.entries.items s.row.items c.take_out.new.row.items at e before inside c.index-entry.ensures left c.take_out.ensures.items in
+    record { rising = after.rising; tight = after.tight }
 
 pub returns : goal.returns
 returns c =
@@ -56,8 +56,8 @@ returns c =
     let inside : at < length es = omega (arith, c.requires, length_cut es s.row.items) in
     let next : at + 1 ≡ suc at = omega arith in
     let before : Sound es s.row.items = record { rising = s.rising; tight = s.tight } in
-    let left = c.take-entry.ensures.items ∙ ap (λ k. take at es ++ map (earlier e.length) (drop k es)) next in
+    let left = c.take_entry.ensures.items ∙ ap (λ k. take at es ++ map (earlier e.length) (drop k es)) next in
     record {
-      lines = taken_lines es c.take-entry.new.entries.items s.row.items c.take-out.new.row.items at e before inside c.index-entry.ensures left c.take-out.ensures.items;
-      room = (omega (arith, c.take-entry.ensures.room), omega (arith, c.take-out.ensures.room));
+      lines = taken_lines es c.take_entry.new.entries.items s.row.items c.take_out.new.row.items at e before inside c.index-entry.ensures left c.take_out.ensures.items;
+      room = (omega (arith, c.take_entry.ensures.room), omega (arith, c.take_out.ensures.room));
     }
