@@ -4,20 +4,20 @@ use Rattle.store.specs.Stores.{lines_of}
 use Rattle.pool.proofs.Costs.{pool_total}
 use Rattle.pool.proofs.Pool.has_room.Goals as goal
 
-pub overflow-mul-free : goal.overflow-mul-free
-overflow-mul-free c =
+pub overflow_mul-free : goal.overflow_mul-free
+overflow_mul-free c =
     let sum = pool_total (lines_of c.args.self.now.store) in
     let small : 2 * c.lines.result ≤ 1048576 = omega (arith, c.args.self.now.within) in
     search rules
 
-pub overflow-add-free : goal.overflow-add-free
-overflow-add-free c =
+pub overflow_add-free : goal.overflow_add-free
+overflow_add-free c =
     let sum = pool_total (lines_of c.args.self.now.store) in
     let small : c.literals.result + 2 * c.lines.result ≤ 1048576 = omega (arith, c.args.self.now.within) in
     search rules
 
-pub overflow-sub-free : goal.overflow-sub-free
-overflow-sub-free c =
+pub overflow_sub-free : goal.overflow_sub-free
+overflow_sub-free c =
     let sum = pool_total (lines_of c.args.self.now.store) in
     omega (arith, c.args.self.now.within)
 

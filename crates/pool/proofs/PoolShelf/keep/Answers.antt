@@ -7,30 +7,30 @@ use Rattle.pool.specs.Rule.{pool_cost}
 use Rattle.pool.proofs.Costs.{pool_total, within_kept}
 use Rattle.pool.proofs.PoolShelf.keep.Goals as goal
 
-pub returns-then-not-has-room : goal.returns-then-not-has-room
-returns-then-not-has-room c =
+pub returns-then-not-has_room : goal.returns-then-not-has_room
+returns-then-not-has_room c =
     let p = c.args.self.now in
     let xs = lines_of p.store in
     let can = affords p.words (total pool_cost xs) (pool_cost (length c.args.literals.now)) in
     record {
-      answer = not_kept_unfit (find xs c.args.number) can _ _ (sym c.if-not-has-room.ensures);
+      answer = not_kept_unfit (find xs c.args.number) can _ _ (sym c.if-not-has_room.ensures);
       map = refl;
       lines = refl;
       capacity = refl;
     }
 
-pub invariant-of-self : goal.invariant-of-self
-invariant-of-self c =
+pub invariant_of-self : goal.invariant_of-self
+invariant_of-self c =
     let p = c.args.self.now in
     let more = c.keep.ensures.room in
     let lines = p.roomy in
-    let literals = p.wide in (
-      p.few,
-      (
-        within_kept pool_cost p.words c.args.number c.args.literals.now (lines_of p.store) (lines_of c.keep.new.self) (is_ok c.keep.result) (sym c.if-not-has-room.ensures) c.keep.ensures.lines p.within,
-        (omega arith, (omega arith, tt)),
-      ),
-    )
+    let literals = p.wide in
+    record {
+      few = p.few;
+      within = within_kept pool_cost p.words c.args.number c.args.literals.now (lines_of p.store) (lines_of c.keep.new.self) (is_ok c.keep.result) (sym c.if-not-has_room.ensures) c.keep.ensures.lines p.within;
+      roomy = omega arith;
+      wide = omega arith;
+    }
 
 pub returns : goal.returns
 returns c =
@@ -40,11 +40,11 @@ returns c =
     let sum = pool_total xs in
     let lines = p.roomy in
     let literals = p.wide in
-    let can = leb-true (total pool_cost xs + (k + 2)) p.words (sym c.if-not-has-room.ensures) in
+    let can = leb-true (total pool_cost xs + (k + 2)) p.words (sym c.if-not-has_room.ensures) in
     let room = fits_from p.store k (omega arith) (omega arith) in
     record {
       answer = c.keep.ensures.answer
-          ∙ alike (is_some (find xs c.args.number)) (fits p.store k) (affords p.words (total pool_cost xs) (pool_cost k)) _ _ room (sym c.if-not-has-room.ensures);
+          ∙ alike (is_some (find xs c.args.number)) (fits p.store k) (affords p.words (total pool_cost xs) (pool_cost k)) _ _ room (sym c.if-not-has_room.ensures);
       map = c.keep.ensures.map;
       lines = c.keep.ensures.lines;
       capacity = refl;
