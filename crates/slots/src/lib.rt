@@ -4,9 +4,10 @@
 
 ghost use Rattle.std.specs.Prelude.{◌≡◌, ◌*◌, ◌≤◌, true, [], IfOk};
 ghost use Rattle.shelf.specs.Lines.{find, total, affords};
+ghost use Rattle.slots.specs.Laws.{slot_costs};
 ghost use Rattle.slots.specs.Rule.{slots_in, slot_cost, short};
 ghost use Rattle.store.specs.Stores.{lines_of, line_room, literal_room};
-ghost use Rattle.std.proofs.Common.{rules, arith};
+ghost use Rattle.std.proofs.Common.{refl, ap, ◌∙◌};
 ghost use Rattle.store.proofs.Places.{rising_from_rises};
 
 use clauses::ClauseSource;
@@ -54,11 +55,11 @@ impl ClauseSource for Slots {
 
     ghost steady = { λ p q. (lines_of q.store ≡ lines_of p.store) × (q.slots ≡ p.slots) };
 
-    ghost stays = { first_of (Prim.search rules, Prim.grind (arith, Self.row.coded.inj)) };
+    ghost stays = { λ _. (refl, refl) };
 
-    ghost goes_on = { first_of (Prim.search rules, Prim.grind (arith, Self.row.coded.inj)) };
+    ghost goes_on = { λ x y z p q. (q.0 ∙ p.0, q.1 ∙ p.1) };
 
-    ghost same = { first_of (Prim.search rules, Prim.grind (arith, Self.row.coded.inj)) };
+    ghost same = { λ _ _ p. ap find p.0 };
 
     fn length(&mut self, number: u32) -> Option<usize> {
         self.store.length(number)
@@ -76,15 +77,15 @@ impl Shelf for Slots {
 
     ghost cost = { slot_cost };
 
-    ghost costs_something = { first_of (Prim.search rules, Prim.grind (arith, Self.row.coded.inj)) };
+    ghost costs_something = { slot_costs };
 
     ghost rising = { λ x. rising_from_rises (lines_of x.store) x.store.rising };
 
-    ghost shown = { first_of (Prim.search rules, Prim.grind (arith, Self.row.coded.inj)) };
+    ghost shown = { λ _. refl };
 
-    ghost lines_stay = { first_of (Prim.search rules, Prim.grind (arith, Self.row.coded.inj)) };
+    ghost lines_stay = { λ _ _ p. p.0 };
 
-    ghost capacity_stays = { first_of (Prim.search rules, Prim.grind (arith, Self.row.coded.inj)) };
+    ghost capacity_stays = { λ _ _ p. p.1 };
 
     fn capacity(&self) -> usize {
         self.slots
