@@ -1,5 +1,5 @@
 -- Lists of calls, and what they leave where every call keeps it.
-use Rattle.std.proofs.Common.{◌≡◌, Bool, true, false, cond, ◌⊎◌, List, [], ◌∷◌, ◌++◌, Some, None, Option, sym, refl, ap, ◌∙◌, subst, inl, inr, ⊎_elim}
+use Rattle.std.proofs.Common.{◌≡◌, Bool, true, false, cond, List, [], ◌∷◌, ◌++◌, Some, None, Option, sym, refl, ap, ◌∙◌, subst}
 use Rattle.shelf.proofs.Lines.{none_some}
 use Rattle.histories.specs.Cases.{State, Room, Call, judge, calls_from}
 use Rattle.histories.specs.Law.{taken, later_or, last_taken}

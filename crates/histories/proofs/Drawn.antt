@@ -1,5 +1,5 @@
 -- The board of a case is what the accepted calls drew.
-use Rattle.std.proofs.Common.{◌≡◌, ℕ, ◌<◌, ◌≤◌, Bool, true, false, cond, ◌&&◌, ltb, leb, ◌≢◌, ◌⊎◌, List, [], ◌∷◌, ◌++◌, map, length, Some, None, Option, sym, refl, ap, ◌∙◌, subst, inl, inr, ⊎_elim, append_assoc, append-nil}
+use Rattle.std.proofs.Common.{◌≡◌, ℕ, ◌<◌, ◌≤◌, Bool, true, false, cond, ◌&&◌, ltb, leb, ◌≢◌, List, [], ◌∷◌, ◌++◌, map, length, Some, None, Option, sym, refl, ap, ◌∙◌, subst, ⊎_elim, append_assoc, append-nil}
 use mathlib.Core.List.{map-append}
 use Rattle.std.proofs.lemmas.Bool.{and_parts, ltb-true, leb-true}
 use Rattle.refusals.specs.declared.Refusal.{Refusal}
@@ -8,12 +8,11 @@ use Rattle.gates.specs.declared.gate.Gate.{Gate}
 use Rattle.gates.specs.Gates.{named}
 use Rattle.gates.specs.Records.{gate_in, record_of, Recorded}
 use Rattle.gates.proofs.FirstRecord.{recorded}
-use Rattle.boards.specs.Sheets.{Sheet, sheet_of, closing}
+use Rattle.boards.specs.Sheets.{Sheet, closing}
 use Rattle.solutions.specs.Claims.{Named}
 use Rattle.shelf.proofs.Lines.{none_some}
 use Rattle.stages.specs.declared.Stage.{Stage}
 use Rattle.stages.specs.declared.Stage.TheVariants as stage
-use Rattle.histories.specs.declared.Answer.{Answer}
 use Rattle.histories.specs.Cases.{State, Room, new, Call, add, close, line, strike, pass, show, Outcome, judge, calls_from, replayed}
 use Rattle.histories.specs.Law.{taken, added, records, closed, closes, Drawn}
 use Rattle.histories.proofs.Judged.{judged, accepts_taken, TakesCall}

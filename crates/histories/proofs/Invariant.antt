@@ -1,7 +1,6 @@
 -- What every call keeps.
-use Rattle.std.proofs.Common.{◌≡◌, ℕ, ◌⊎◌, List, [], ◌∷◌, ◌++◌, length, Some, Ok, sym, refl, ap, ◌∙◌, subst, inl, inr, ⊎_elim}
+use Rattle.std.proofs.Common.{◌≡◌, ℕ, ◌⊎◌, List, [], ◌∷◌, ◌++◌, length, Ok, sym, refl, ap, subst, inl, inr, ⊎_elim}
 use Rattle.boards.specs.Sheets.{Sheet, sheet_of}
-use Rattle.clauses.specs.Clauses.{Clause}
 use Rattle.sources.specs.declared.formula.FormulaKind.{FormulaKind}
 use Rattle.sources.specs.declared.formula.FormulaKind.TheVariants as kind
 use Rattle.sources.specs.Meaning.{formula_clauses, formula_variables}
@@ -9,12 +8,11 @@ use Rattle.refutations.specs.Claims.{Unsatisfiable}
 use Rattle.refutations.specs.Refuting.{line as item-line, strike as item-strike}
 use Rattle.refuting.specs.Judging.{Progress, progress, Judged, judge_line, judge_strike}
 use Rattle.acceptance.specs.Claims.{Kept}
-use Rattle.acceptance.specs.Judged.{start}
 use Rattle.acceptance.proofs.Invariant.{kept_at_start, kept_stays}
 use Rattle.stages.specs.declared.Stage.{Stage}
 use Rattle.stages.specs.declared.Stage.TheVariants as stage
-use Rattle.histories.specs.Cases.{State, state, Room, kind_at, formula_terms, terms_at, Call, add, close, line, strike, pass, show, Outcome, judge}
-use Rattle.histories.proofs.Judged.{Refuses, judged, TakesCall, ItemTaken}
+use Rattle.histories.specs.Cases.{State, Room, kind_at, formula_terms, terms_at, Call, add, close, line, strike, pass, show, Outcome, judge}
+use Rattle.histories.proofs.Judged.{judged, TakesCall, ItemTaken}
 use Rattle.histories.proofs.Stages.{Goes_on, add_at, close_at, line_at, empty_at, strike_at, pass_at, show_at}
 
 module _ (room : Room) where

@@ -1,19 +1,17 @@
 -- A call is refused and nothing changes, or its stage takes it and it leads where it says.
-use Rattle.std.proofs.Common.{◌≡◌, ℕ, ◌*◌, ◌<◌, Bool, true, false, ◌&&◌, eqb, ltb, leb, ◌⊎◌, List, [], ◌∷◌, ◌++◌, length, Some, None, Ok, Err, Option, sym, refl, ap, ◌∙◌, inl, inr, ⊎_elim}
-use Rattle.std.proofs.lemmas.Bool.{both_ways, ltb-true}
+use Rattle.std.proofs.Common.{◌≡◌, ℕ, ◌*◌, Bool, true, false, ◌&&◌, eqb, ltb, leb, ◌⊎◌, List, [], ◌∷◌, ◌++◌, length, Some, None, Ok, Err, Option, refl, ap, inl, inr, ⊎_elim}
+use Rattle.std.proofs.lemmas.Bool.{both_ways}
 use Rattle.refusals.specs.declared.Refusal.{Refusal}
 use Rattle.refusals.specs.declared.Refusal.TheVariants as refusal
 use Rattle.gates.specs.declared.gate.Gate.{Gate}
 use Rattle.gates.specs.Records.{gate_in}
-use Rattle.boards.specs.Sheets.{Sheet, sheet_of, add_gate, closing}
-use Rattle.clauses.specs.Clauses.{Clause}
+use Rattle.boards.specs.Sheets.{sheet_of, add_gate, closing}
 use Rattle.sources.specs.declared.formula.FormulaKind.TheVariants as kind
 use Rattle.sources.specs.Meaning.{formula_clauses, formula_variables}
 use Rattle.hints.specs.Hints.{Verdict}
-use Rattle.refuting.specs.Judging.{Progress, progress, Judged, judge_line, judge_strike}
+use Rattle.refuting.specs.Judging.{progress, Judged, judge_line, judge_strike}
 use Rattle.stages.specs.declared.Stage.{Stage}
 use Rattle.stages.specs.Stages.{after}
-use Rattle.histories.specs.declared.Answer.{Answer}
 use Rattle.histories.specs.declared.Answer.TheVariants.{Accepted, Shown, Refused}
 use Rattle.histories.specs.Shown.{all_bits, valuation, satisfies, shown_run, first_bad}
 use Rattle.histories.specs.Cases.{State, state, Room, terms_at, Call, add, close, line, strike, pass, show, event_of, Outcome, test, judge_add, by_closing, judge_close, by_verdict, judge_item, judge_pass, judge_show, judge_call, by_stage, judge}

@@ -1,18 +1,16 @@
 -- A refuting list that is accepted item by item is taken whole by a case.
-use Rattle.std.proofs.Common.{◌≡◌, ℕ, List, [], ◌∷◌, length, Some, None, Ok, Err, Option, sym, refl, ap, ◌∙◌, subst}
+use Rattle.std.proofs.Common.{◌≡◌, ℕ, List, [], ◌∷◌, Some, Ok, Option, sym, refl, ap, ◌∙◌, subst}
 use Rattle.std.specs.List.{AllByRecursion as All}
 use Rattle.boards.specs.Sheets.{Sheet}
 use Rattle.clauses.specs.Clauses.{Clause}
-use Rattle.hints.specs.Hints.{Verdict}
 use Rattle.refutations.specs.Refuting.{Item, line as item-line, strike as item-strike, Refutes}
-use Rattle.refuting.specs.Judging.{Terms, Progress, Judged, judge_line, judge_strike}
+use Rattle.refuting.specs.Judging.{Progress, Judged, judge_line, judge_strike}
 use Rattle.acceptance.specs.Judged.{judge_items, offered as offered-items, AllAccepted}
 use Rattle.stages.specs.declared.Event.TheVariants as event
 use Rattle.stages.specs.declared.Stage.{Stage}
 use Rattle.stages.specs.Stages.{after}
-use Rattle.histories.specs.declared.Answer.{Answer}
 use Rattle.histories.specs.declared.Answer.TheVariants.{Accepted}
-use Rattle.histories.specs.Cases.{State, state, Room, formula_terms, terms_at, kind_at, Call, line, strike, Outcome, by_verdict, judge_item, by_stage, judge, calls_from}
+use Rattle.histories.specs.Cases.{State, state, Room, formula_terms, kind_at, Call, line, strike, by_verdict, judge_item, by_stage, judge, calls_from}
 use Rattle.histories.specs.Law.{offered, TakenWhole}
 
 -- The last item is the empty line, and no other is.

@@ -1,5 +1,5 @@
 -- An accepted show shows a bad run.
-use Rattle.std.proofs.Common.{◌≡◌, ℕ, Bool, true, false, ◌&&◌, ◌≢◌, ◌⊎◌, List, [], ◌∷◌, Some, None, Option, sym, refl, ap, ◌∙◌, subst, inl, inr, ⊎_elim, arith}
+use Rattle.std.proofs.Common.{◌≡◌, ℕ, true, ◌≢◌, ◌⊎◌, List, [], ◌∷◌, None, sym, refl, ap, ◌∙◌, subst, inl, inr, ⊎_elim}
 use Rattle.std.proofs.lemmas.Bool.{and_parts}
 use Rattle.boards.specs.Sheets.{Sheet, closing}
 use Rattle.clauses.specs.Clauses.{Clause, Valuation, Satisfies}
@@ -9,7 +9,7 @@ use Rattle.stages.specs.declared.Stage.{Stage}
 use Rattle.stages.specs.declared.Stage.TheVariants as stage
 use Rattle.stages.specs.Stages.{after}
 use Rattle.histories.specs.declared.Answer.{Answer}
-use Rattle.histories.specs.declared.Answer.TheVariants.{Accepted, Shown, Refused}
+use Rattle.histories.specs.declared.Answer.TheVariants.{Shown}
 use Rattle.histories.specs.Shown.{valuation, satisfies, shown_run, first_bad}
 use Rattle.histories.specs.Cases.{State, Room, Call, add, close, line, strike, pass, show, event_of, Outcome, judge_call, by_stage, judge, calls_from}
 use Rattle.histories.specs.Law.{taken, ShowTaken, ShowsBad}

@@ -1,7 +1,6 @@
 -- Which stages take which events.
-use Rattle.std.proofs.Common.{◌≡◌, ℕ, ◌≢◌, ◌⊎◌, Some, None, Option, sym, refl, ap, ◌∙◌, inl, inr, arith}
+use Rattle.std.proofs.Common.{◌≡◌, ℕ, ◌≢◌, ◌⊎◌, Some, None, Option, refl, inl, inr, arith}
 use Rattle.shelf.proofs.Lines.{none_some}
-use Rattle.stages.specs.declared.Event.{Event}
 use Rattle.stages.specs.declared.Event.TheVariants.{Add, Close, Line, EmptyLine, Strike, Pass, Show}
 use Rattle.stages.specs.declared.Stage.{Stage}
 use Rattle.stages.specs.declared.Stage.TheVariants.{Draw, Base, BaseDone, Step, Safe, Shown}

@@ -1,7 +1,6 @@
 -- The law stands.
-use Rattle.std.proofs.Common.{◌≡◌, ℕ, ◌<◌, ◌≤◌, Bool, ◌≢◌, ◌⊎◌, ◌↔◌, List, [], ◌∷◌, length, Some, sym, refl, ap, ◌∙◌, subst, inl, inr, ⊎_elim, le_refl}
+use Rattle.std.proofs.Common.{◌≡◌, ℕ, ◌↔◌, List, [], length, Some, sym, refl, ap, ◌∙◌, subst, ⊎_elim, le_refl}
 use Rattle.boards.specs.Sheets.{Sheet, sheet_of, closing}
-use Rattle.clauses.specs.Clauses.{Clause}
 use Rattle.formulas.specs.Formulas.{base, step, base_variables, step_variables}
 use Rattle.formulas.proofs.Overs.{base_over}
 use Rattle.sources.specs.declared.formula.FormulaKind.TheVariants as kind
@@ -15,9 +14,8 @@ use Rattle.refutations.proofs.Listed.{listed_refuted}
 use Rattle.refutations.proofs.Complete.{refuted_listed}
 use Rattle.refuting.specs.Judging.{progress}
 use Rattle.acceptance.proofs.Whole.{taken_whole}
-use Rattle.stages.specs.declared.Stage.{Stage}
 use Rattle.stages.specs.declared.Stage.TheVariants as stage
-use Rattle.histories.specs.Cases.{State, state, Room, new, Call, close, pass, judge, calls_from, replayed}
+use Rattle.histories.specs.Cases.{State, state, Room, new, Call, close, pass, judge, replayed}
 use Rattle.histories.specs.Law.{last_taken, AlwaysGood, NoneBad, Takes, Law}
 use Rattle.histories.proofs.Judged.{accepted_leads}
 use Rattle.histories.proofs.Calls.{calls_keep, last_leads}

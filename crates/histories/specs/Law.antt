@@ -4,11 +4,10 @@ use Rattle.std.specs.List.{AllByRecursion as All}
 use Rattle.refusals.specs.declared.Refusal.{Refusal}
 use Rattle.gates.specs.Records.{record_of}
 use Rattle.values.specs.declared.single.Value.{Value}
-use Rattle.values.specs.declared.single.Value.TheVariants.{Undefined, One}
 use Rattle.boards.specs.Sheets.{Sheet}
 use Rattle.clauses.specs.Clauses.{Clause}
 use Rattle.formulas.specs.Formulas.{base, step, base_variables, step_variables}
-use Rattle.solutions.specs.Runs.{Run, Frame, BadAt, BadWithin}
+use Rattle.solutions.specs.Runs.{Run, Frame, BadWithin}
 use Rattle.induction.specs.Claims.{FirstBadAt}
 use Rattle.runs.specs.Faults.{Fault, Faultless}
 use Rattle.refutations.specs.Refuting.{Item, line as item-line, strike as item-strike, Refuting}
