@@ -1,6 +1,6 @@
 -- The tests of a line and of a strike, and what passing them means.
 use Rattle.std.proofs.Common.{◌≡◌, ℕ, ◌≤◌, Bool, true, false, cond, ◌&&◌, ltb, leb, ◌⊎◌, List, [], ◌∷◌, ℤ, is_some, Some, None, Ok, Err, Option, sym, refl, ap, ◌∙◌, inl, inr, arith}
-use Rattle.std.specs.List.{AllByRecursion as All}
+use Rattle.std.specs.List.{AllByRecursion as AllOf}
 use Rattle.std.proofs.lemmas.Bool.{both_ways, and_parts, and_from, ltb-true, leb-true, lt-ltb, le-leb}
 use Rattle.refusals.specs.declared.Refusal.{Refusal}
 use Rattle.refusals.specs.declared.Refusal.TheVariants.{Buffer, Number, Literal, Space, Absent}
@@ -51,14 +51,14 @@ cond_unchanged false s r next p q = q
 abbrev pub Small : ℤ → Type 0
 Small l = variable l ≤ 2147483647
 
-pub all_fit_true : (V : ℕ) (ls : Clause) → All (Within V) ls → All Small ls → all_fit V ls ≡ true
+pub all_fit_true : (V : ℕ) (ls : Clause) → AllOf (Within V) ls → AllOf Small ls → all_fit V ls ≡ true
 all_fit_true V [] within small = refl
 all_fit_true V (l ∷ ls) within small =
     and_from (fits V l) (all_fit V ls)
     (and_from (names V l) (leb (variable l) 2147483647) (within_names V l within.0) (le-leb (variable l) 2147483647 small.0))
     (all_fit_true V ls within.1 small.1)
 
-pub all_fit_parts : (V : ℕ) (ls : Clause) → all_fit V ls ≡ true → All (Within V) ls × All Small ls
+pub all_fit_parts : (V : ℕ) (ls : Clause) → all_fit V ls ≡ true → AllOf (Within V) ls × AllOf Small ls
 all_fit_parts V [] e = (tt, tt)
 all_fit_parts V (l ∷ ls) e =
     let parts = and_parts (fits V l) (all_fit V ls) e in
@@ -84,7 +84,7 @@ module _ (t : Terms) (s : Progress) (marks n : ℕ) (ls : Clause) (hints : List 
   by_number = check (ltb s.last n && leb n 2147483647) Number s by_literals
 
   -- a line that fits gets as far as being kept
-  pub line_taken : Fits t.variables (known t s.lines) s.last n ls hints → t.variables ≤ marks → n ≤ 2147483647 → All Small ls
+  pub line_taken : Fits t.variables (known t s.lines) s.last n ls hints → t.variables ≤ marks → n ≤ 2147483647 → AllOf Small ls
       → judge_line t s marks n ls hints ≡ take_line t s n ls
   line_taken fit lent low small =
       passed (leb t.variables marks) Buffer s by_number (le-leb t.variables marks lent)
@@ -96,7 +96,7 @@ module _ (t : Terms) (s : Progress) (marks n : ℕ) (ls : Clause) (hints : List 
   -- a line that is accepted fits
   pub line_accepted : (judge_line t s marks n ls hints).0 ≡ Ok tt
       → Fits t.variables (known t s.lines) s.last n ls hints
-      × (t.variables ≤ marks) × (n ≤ 2147483647) × All Small ls × ((take_line t s n ls).0 ≡ Ok tt)
+      × (t.variables ≤ marks) × (n ≤ 2147483647) × AllOf Small ls × ((take_line t s n ls).0 ≡ Ok tt)
   line_accepted e =
       let a = accepted (leb t.variables marks) Buffer s by_number e in
       let b = accepted (ltb s.last n && leb n 2147483647) Number s by_literals a.1 in

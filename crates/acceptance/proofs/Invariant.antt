@@ -1,6 +1,6 @@
 -- What holds of the lines kept, whatever is judged.
 use Rattle.std.proofs.Common.{◌≡◌, ℕ, ◌+◌, ◌<◌, ◌≤◌, Bool, true, false, cond, ◌≢◌, ◌⊎◌, List, [], ◌∷◌, length, ℤ, is_some, Some, Ok, Err, Option, unwrap_or, sym, refl, ap, ◌∙◌, subst, inl, inr, le_refl, arith}
-use Rattle.std.specs.List.{AllByRecursion as All}
+use Rattle.std.specs.List.{AllByRecursion as AllOf}
 use Rattle.std.proofs.ByRecursion.{All-weaker}
 use Rattle.refusals.specs.declared.Refusal.TheVariants.{Space}
 use Rattle.clauses.specs.Clauses.{Clause, Valuation, some_true, Satisfies, numbered}
@@ -36,7 +36,7 @@ module _ (V : ℕ) (F : List Clause) (capacity : ℕ) (cost : Costs) where
   abbrev Sure : Progress → Type 0
   Sure s = Kept V F capacity cost s
 
-  known_holds : (v : Valuation) → Satisfies v F → (xs : Lines) → All (λ x. some_true v x.1 ≡ true) xs → Models v (known t xs)
+  known_holds : (v : Valuation) → Satisfies v F → (xs : Lines) → AllOf (λ x. some_true v x.1 ≡ true) xs → Models v (known t xs)
   known_holds v satisfies xs all k c e = go (of_formula (length F) k) e
     where
       go : (b : Bool) → cond b (numbered F k) (find xs k) ≡ Some c → some_true v c ≡ true
@@ -61,7 +61,7 @@ module _ (V : ℕ) (F : List Clause) (capacity : ℕ) (cost : Costs) where
         → (v : Valuation) → Satisfies v F → some_true v ls ≡ true
     line_holds n ls hints fit v satisfies = sound V (known t s.lines) ls hints fit.2 v (sure.known_follow v satisfies)
 
-    renumbered : (n : ℕ) → s.last < n → All (λ x. (length F < x.0) × (x.0 ≤ n)) s.lines
+    renumbered : (n : ℕ) → s.last < n → AllOf (λ x. (length F < x.0) × (x.0 ≤ n)) s.lines
     renumbered n h =
         All-weaker (λ x. (length F < x.0) × (x.0 ≤ s.last)) (λ x. (length F < x.0) × (x.0 ≤ n)) (λ x q. (q.0, omega (arith, q.1))) s.lines
         sure.numbers
@@ -84,7 +84,7 @@ module _ (V : ℕ) (F : List Clause) (capacity : ℕ) (cost : Costs) where
     with_line n l ls hints fit kept =
         let c : Clause = l ∷ ls in
         let parts = keeps_parts capacity cost s.lines n c kept in
-        let follow : (v : Valuation) → Satisfies v F → All (λ x. some_true v x.1 ≡ true) (insert n c s.lines) =
+        let follow : (v : Valuation) → Satisfies v F → AllOf (λ x. some_true v x.1 ≡ true) (insert n c s.lines) =
         λ v satisfies. all_insert (λ x. some_true v x.1 ≡ true) n c s.lines (line_holds n c hints fit v satisfies) (sure.lines_follow v satisfies) in
         record {
           lines_follow = follow;
@@ -94,13 +94,13 @@ module _ (V : ℕ) (F : List Clause) (capacity : ℕ) (cost : Costs) where
               all_insert (λ x. (length F < x.0) × (x.0 ≤ n)) n c s.lines (omega (arith, fit.0, sure.last), le_refl n) (renumbered n fit.0);
           last = omega (arith, fit.0, sure.last);
           not_empty = all_insert (λ x. x.1 ≢ []) n c s.lines (cons_not_empty l ls) sure.not_empty;
-          literals = all_insert (λ x. All (Within V) x.1) n c s.lines fit.1 sure.literals;
+          literals = all_insert (λ x. AllOf (Within V) x.1) n c s.lines fit.1 sure.literals;
           costs = parts.2;
         }
 
     without : (n : ℕ) (c : Clause) → find s.lines n ≡ Some c → Sure (progress s.last (remove n s.lines))
     without n c e =
-        let follow : (v : Valuation) → Satisfies v F → All (λ x. some_true v x.1 ≡ true) (remove n s.lines) =
+        let follow : (v : Valuation) → Satisfies v F → AllOf (λ x. some_true v x.1 ≡ true) (remove n s.lines) =
         λ v satisfies. all_remove (λ x. some_true v x.1 ≡ true) n s.lines (sure.lines_follow v satisfies) in
         record {
           lines_follow = follow;
@@ -109,7 +109,7 @@ module _ (V : ℕ) (F : List Clause) (capacity : ℕ) (cost : Costs) where
           numbers = all_remove (λ x. (length F < x.0) × (x.0 ≤ s.last)) n s.lines sure.numbers;
           last = sure.last;
           not_empty = all_remove (λ x. x.1 ≢ []) n s.lines sure.not_empty;
-          literals = all_remove (λ x. All (Within V) x.1) n s.lines sure.literals;
+          literals = all_remove (λ x. AllOf (Within V) x.1) n s.lines sure.literals;
           costs = omega (arith, total_remove cost n c s.lines sure.rising e, sure.costs);
         }
 

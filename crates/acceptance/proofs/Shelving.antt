@@ -1,7 +1,7 @@
 -- The lines kept, and the clauses that a hint can name, after a line is kept or struck.
 use Rattle.std.proofs.Common.{◌≡◌, ℕ, zero, suc, ◌+◌, ◌<◌, ◌≤◌, Bool, true, false, cond, not, eqb, ltb, leb, ◌≢◌, ◌⊎◌, List, [], ◌∷◌, length, is_some, Some, None, Option, unwrap_or, sym, refl, ap, ◌∙◌, subst, inl, inr, arith}
 use mathlib.Core.Path.{fun_ext}
-use Rattle.std.specs.List.{AllByRecursion as All}
+use Rattle.std.specs.List.{AllByRecursion as AllOf}
 use Rattle.std.specs.Map.{update}
 use Rattle.std.proofs.lemmas.Option.{slice_get_past}
 use Rattle.std.proofs.lemmas.Bool.{both_ways, and_parts, and_from, and_right, leb-true, le-leb, lt-leb, eqb-true, ltb-false, leb-false, and_cases}
@@ -14,24 +14,24 @@ use Rattle.shelf.proofs.Lines.{none_some, map_insert, map_remove, total_insert}
 -- ---- what all lines have
 
 module _ (P : ℕ × Clause → Type 0) where
-  pub all_insert : (n : ℕ) (c : Clause) (xs : Lines) → P (n, c) → All P xs → All P (insert n c xs)
+  pub all_insert : (n : ℕ) (c : Clause) (xs : Lines) → P (n, c) → AllOf P xs → AllOf P (insert n c xs)
   all_insert n c [] p all = (p, tt)
   all_insert n c (x ∷ xs) p all = go (ltb n x.0) (all_insert n c xs p all.1)
     where
-      go : (b : Bool) → All P (insert n c xs) → All P (cond b ((n, c) ∷ x ∷ xs) (x ∷ insert n c xs))
+      go : (b : Bool) → AllOf P (insert n c xs) → AllOf P (cond b ((n, c) ∷ x ∷ xs) (x ∷ insert n c xs))
       go true later = (p, all)
       go false later = (all.0, later)
 
-  pub all_remove : (n : ℕ) (xs : Lines) → All P xs → All P (remove n xs)
+  pub all_remove : (n : ℕ) (xs : Lines) → AllOf P xs → AllOf P (remove n xs)
   all_remove n [] all = tt
   all_remove n (x ∷ xs) all = go (eqb n x.0) (all_remove n xs all.1)
     where
-      go : (b : Bool) → All P (remove n xs) → All P (cond b (remove n xs) (x ∷ remove n xs))
+      go : (b : Bool) → AllOf P (remove n xs) → AllOf P (cond b (remove n xs) (x ∷ remove n xs))
       go true later = later
       go false later = (all.0, later)
 
 -- a line that is found has what all have of their literals
-pub found : (P : Clause → Type 0) (xs : Lines) → All (λ x. P x.1) xs → (k : ℕ) (c : Clause) → find xs k ≡ Some c → P c
+pub found : (P : Clause → Type 0) (xs : Lines) → AllOf (λ x. P x.1) xs → (k : ℕ) (c : Clause) → find xs k ≡ Some c → P c
 found P [] all k c e = absurd (none_some c e)
 found P (x ∷ xs) all k c e = go (eqb k x.0) e (found P xs all.1 k c)
   where
@@ -40,7 +40,7 @@ found P (x ∷ xs) all k c e = go (eqb k x.0) e (found P xs all.1 k c)
     go false q later = later q
 
 -- a number above all others is not there
-pub find_above : (n : ℕ) (xs : Lines) → All (λ x. x.0 < n) xs → find xs n ≡ None
+pub find_above : (n : ℕ) (xs : Lines) → AllOf (λ x. x.0 < n) xs → find xs n ≡ None
 find_above n [] all = refl
 find_above n (x ∷ xs) all = go (eqb n x.0) refl (find_above n xs all.1)
   where

@@ -1,6 +1,6 @@
 -- A refuting list that fits is accepted whole, and only such a list is.
 use Rattle.std.proofs.Common.{◌≡◌, ℕ, ◌<◌, ◌≤◌, true, eqb, List, [], ◌∷◌, length, is_some, Some, None, Ok, sym, refl, ◌∙◌, subst, le_refl, arith}
-use Rattle.std.specs.List.{AllByRecursion as All}
+use Rattle.std.specs.List.{AllByRecursion as AllOf}
 use Rattle.std.specs.Map.{update}
 use Rattle.std.proofs.ByRecursion.{All-weaker}
 use Rattle.refusals.specs.declared.Refusal.TheVariants.{Space}
@@ -34,7 +34,7 @@ module _ (V : ℕ) (F : List Clause) (capacity : ℕ) (cost : Costs) (marks : �
 
   -- the numbers of the lines kept are not above the last one
   abbrev Low : Lines → ℕ → Type 0
-  Low xs last = All (λ x. x.0 ≤ last) xs
+  Low xs last = AllOf (λ x. x.0 ≤ last) xs
 
   low_insert : (xs : Lines) (last n : ℕ) (c : Clause) → Low xs last → last < n → Low (insert n c xs) n
   low_insert xs last n c low h =

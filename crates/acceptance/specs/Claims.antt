@@ -1,7 +1,7 @@
 -- What is proved of lines and strikes that are judged one after the other.
 use Rattle.std.specs.Prelude.{◌≡◌, ℕ, ◌+◌, ◌<◌, ◌≤◌, true, false, ◌≢◌, List, [], length, Some, Ok, Err}
 use Rattle.std.specs.Option.{unwrap_or}
-use Rattle.std.specs.List.{AllByRecursion as All}
+use Rattle.std.specs.List.{AllByRecursion as AllOf}
 use Rattle.refusals.specs.declared.Refusal.{Refusal}
 use Rattle.clauses.specs.Clauses.{Clause, Valuation, some_true, Satisfies}
 use Rattle.refutations.specs.Claims.{Models, Unsatisfiable}
@@ -41,15 +41,15 @@ RefusalsChangeNothing =
 -- Of a formula over the variables 1 to V, and how far its refutation has come:
 pub record Kept (V : ℕ) (F : List Clause) (capacity : ℕ) (cost : Costs) (s : Progress) : Type 0 where
   -- a valuation that satisfies the formula satisfies every line kept, and so every clause that a hint can name
-  pub lines_follow : (v : Valuation) → Satisfies v F → All (λ x. some_true v x.1 ≡ true) s.lines
+  pub lines_follow : (v : Valuation) → Satisfies v F → AllOf (λ x. some_true v x.1 ≡ true) s.lines
   pub known_follow : (v : Valuation) → Satisfies v F → Models v (known (terms_of V F capacity cost) s.lines)
   -- the lines are in rising order of number, and their numbers are above the formula's and not above the last one
   pub rising : Rising s.lines
-  pub numbers : All (λ x. (length F < x.0) × (x.0 ≤ s.last)) s.lines
+  pub numbers : AllOf (λ x. (length F < x.0) × (x.0 ≤ s.last)) s.lines
   pub last : length F ≤ s.last
   -- each has a literal, and its literals are of the variables 1 to V
-  pub not_empty : All (λ x. x.1 ≢ []) s.lines
-  pub literals : All (λ x. All (Within V) x.1) s.lines
+  pub not_empty : AllOf (λ x. x.1 ≢ []) s.lines
+  pub literals : AllOf (λ x. AllOf (Within V) x.1) s.lines
   -- together they cost at most the capacity
   pub costs : total cost s.lines ≤ capacity
 

@@ -1,6 +1,6 @@
 -- Lines and strikes that are judged one after the other while a formula is refuted.
 use Rattle.std.specs.Prelude.{◌≡◌, ℕ, ◌<◌, ◌≤◌, ◌≢◌, ◌⊎◌, List, [], ◌∷◌, map, length, None, Ok}
-use Rattle.std.specs.List.{AllByRecursion as All}
+use Rattle.std.specs.List.{AllByRecursion as AllOf}
 use Rattle.clauses.specs.Clauses.{Clause, variable, numbered}
 use Rattle.hints.specs.Hints.{Verdict}
 use Rattle.refutations.specs.Refuting.{Item, line, strike}
@@ -60,7 +60,7 @@ StrikesAbove C (strike n ∷ items) = (C < n) × StrikesAbove C items
 -- The numbers of its lines, and of the variables in them, fit into 32 bits with a sign.
 abbrev pub NumbersFit : List Item → Type 0
 NumbersFit [] = Unit {0}
-NumbersFit (line n ls hints ∷ items) = (n ≤ 2147483647) × All (λ l. variable l ≤ 2147483647) ls × NumbersFit items
+NumbersFit (line n ls hints ∷ items) = (n ≤ 2147483647) × AllOf (λ l. variable l ≤ 2147483647) ls × NumbersFit items
 NumbersFit (strike n ∷ items) = NumbersFit items
 
 -- Its costs fit, where `lines` are those not yet struck: every line with literals has a cost, and after each of these the lines
@@ -75,7 +75,7 @@ CostsFit capacity cost lines (line n (l ∷ ls) hints ∷ items) =
 CostsFit capacity cost lines (strike n ∷ items) = CostsFit capacity cost (remove n lines) items
 
 abbrev pub AllAccepted : List Verdict → Type 0
-AllAccepted answers = All (λ a. a ≡ Ok tt) answers
+AllAccepted answers = AllOf (λ a. a ≡ Ok tt) answers
 
 -- Some item is the empty line, and is accepted.
 abbrev pub EmptyAccepted : Offers → List Verdict → Type 0

@@ -1,6 +1,6 @@
 -- Valuations that agree on the variables.
 use Rattle.std.proofs.Common.{◌≡◌, ℕ, zero, suc, ◌<◌, ◌≤◌, not, ◌||◌, [], ◌∷◌, ℤ, pos, negsuc, sym, refl, ap, ◌∙◌, ap₂}
-use Rattle.std.specs.List.{AllByRecursion as All}
+use Rattle.std.specs.List.{AllByRecursion as AllOf}
 use Rattle.clauses.specs.Clauses.{Clause, Valuation, true_literal, some_true, variable}
 use Rattle.clauses.specs.Claims.{VariablesDecide}
 
@@ -14,7 +14,7 @@ module _ (V : ℕ) (v u : Valuation) (same : (x : ℕ) → x < V → v x ≡ u x
   literal_same (pos (suc x)) f = same x f.1
   literal_same (negsuc x) f = ap not (same x f.1)
 
-  clause_same : (c : Clause) → All (Within V) c → some_true v c ≡ some_true u c
+  clause_same : (c : Clause) → AllOf (Within V) c → some_true v c ≡ some_true u c
   clause_same [] f = refl
   clause_same (l ∷ c) f = ap₂ ◌||◌ (literal_same l f.0) (clause_same c f.1)
 

@@ -2,7 +2,7 @@
 -- A literal is a whole number: a variable, counted from 1, or its negative. In definitions a variable goes by its number less
 -- one: variable x has the literals x + 1 and -(x + 1), and a valuation gives its value at x.
 use Rattle.std.specs.Prelude.{◌≡◌, ℕ, zero, suc, ◌<◌, ◌≤◌, Bool, true, false, not, ◌||◌, List, [], ◌∷◌, ◌++◌, length, ℤ, pos, negsuc, Some, None, Option}
-use Rattle.std.specs.List.{slice_get, AllByRecursion as All}
+use Rattle.std.specs.List.{slice_get, AllByRecursion as AllOf}
 
 abbrev pub Clause : Type 0
 Clause = List ℤ
@@ -28,7 +28,7 @@ some_true v (l ∷ c) = true_literal v l || some_true v c
 
 -- Every clause has a true literal.
 abbrev pub Satisfies : Valuation → List Clause → Type 0
-Satisfies v cs = All (λ c. some_true v c ≡ true) cs
+Satisfies v cs = AllOf (λ c. some_true v c ≡ true) cs
 
 -- the number of a literal's variable
 abbrev pub variable : ℤ → ℕ
@@ -37,7 +37,7 @@ variable (negsuc x) = suc x
 
 -- Every literal's variable is one of 1 to V.
 abbrev pub Over : ℕ → List Clause → Type 0
-Over V cs = All (λ c. All (λ l. (0 < variable l) × (variable l ≤ V)) c) cs
+Over V cs = AllOf (λ c. AllOf (λ l. (0 < variable l) × (variable l ≤ V)) c) cs
 
 -- the clause of a number, counted from 1
 abbrev pub numbered : List Clause → ℕ → Option Clause

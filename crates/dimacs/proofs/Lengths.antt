@@ -1,6 +1,6 @@
 -- How long the clauses of a formula are.
 use Rattle.std.proofs.Common.{◌≡◌, ℕ, zero, suc, ◌+◌, ◌*◌, ◌<◌, ◌≤◌, Bool, true, false, List, [], ◌∷◌, ◌++◌, length, get_or, Some, None, Option, sym, refl, ap, ◌∙◌, arith, length-append}
-use Rattle.std.specs.List.{slice_get, AllByRecursion as All}
+use Rattle.std.specs.List.{slice_get, AllByRecursion as AllOf}
 use Rattle.std.proofs.ByRecursion.{All-append}
 use Rattle.values.specs.Sides.{Rail, rail0, rail1, Right, fixed, one, either, both, two_boths}
 use Rattle.gates.specs.declared.gate.Gate.{Gate}
@@ -38,37 +38,37 @@ module _ (m : ℕ) (three : 3 ≤ m) where
   abbrev Short : Clause → Type 0
   Short c = length c ≤ m
 
-  equation_short : (x : Rail ℕ → ℕ) (a : ℕ) (b : Right ℕ) → All Short (equation x a b)
+  equation_short : (x : Rail ℕ → ℕ) (a : ℕ) (b : Right ℕ) → AllOf Short (equation x a b)
   equation_short x a (fixed t) = (omega arith, tt)
   equation_short x a (one b) = (omega arith, (omega arith, tt))
   equation_short x a (either b c) = (omega arith, (omega arith, (omega arith, tt)))
   equation_short x a (both b c) = (omega arith, (omega arith, (omega arith, tt)))
   equation_short x a (two_boths b c e f) = (omega arith, (omega arith, (omega arith, (omega arith, (omega arith, (omega arith, tt))))))
 
-  held_short : (starts : Bool) (n i w y : ℕ) → All Short (held starts n i w y)
+  held_short : (starts : Bool) (n i w y : ℕ) → AllOf Short (held starts n i w y)
   held_short true n zero w y = (omega arith, tt)
   held_short false n zero w y = tt
   held_short starts n (suc i) w y = equation_short (rail_var n i) (rail_var n (suc i) (rail0 w)) (one (rail0 y))
 
-  driven_short : (starts : Bool) (n i w : ℕ) (g : Drive) → All Short (driven starts n i w g)
+  driven_short : (starts : Bool) (n i w : ℕ) (g : Drive) → AllOf Short (driven starts n i w g)
   driven_short starts n i w input = (omega arith, tt)
   driven_short starts n i w (register y) = (omega arith, held_short starts n i w y)
   driven_short starts n i w (settled s) =
       All-append Short (equation (rail_var n i) (rail_var n i (rail0 w)) s.side0) (equation (rail_var n i) (rail_var n i (rail1 w)) s.side1)
       (equation_short (rail_var n i) (rail_var n i (rail0 w)) s.side0) (equation_short (rail_var n i) (rail_var n i (rail1 w)) s.side1)
 
-  frames_short : (starts : Bool) (gs : List Gate) (frames : ℕ) → All Short (across frames (frame_clauses starts gs))
+  frames_short : (starts : Bool) (gs : List Gate) (frames : ℕ) → AllOf Short (across frames (frame_clauses starts gs))
   frames_short starts gs frames =
       all_across Short frames (frame_clauses starts gs)
       (λ i _. all_across Short (length gs) (λ w. apart (length gs) i w ∷ driven starts (length gs) i w (driver gs w))
       (λ w _. (omega arith, driven_short starts (length gs) i w (driver gs w))))
 
-  marks_short : (n i : ℕ) (u : ℕ → ℕ) → All Short (mark_clauses n i u)
+  marks_short : (n i : ℕ) (u : ℕ → ℕ) → AllOf Short (mark_clauses n i u)
   marks_short n i u =
       all_across Short n (λ w. (minus (u w) ∷ minus (rail_var n i (rail0 w)) ∷ []) ∷ (minus (u w) ∷ minus (rail_var n i (rail1 w)) ∷ []) ∷ [])
       (λ w _. (omega arith, (omega arith, tt)))
 
-  register_short : (g : Drive) (cs : List Clause) → All Short cs → All Short (on_register g cs)
+  register_short : (g : Drive) (cs : List Clause) → AllOf Short cs → AllOf Short (on_register g cs)
   register_short input cs h = tt
   register_short (register y) cs h = h
   register_short (settled s) cs h = tt
@@ -88,13 +88,13 @@ module _ (m : ℕ) (three : 3 ≤ m) where
             length-append (across k (λ i. across n (λ w. plus (base_mark n d i w) ∷ []))) (across n (λ w. plus (base_mark n d k w) ∷ []))
             ∙ omega (arith, rows k, singles_length n (λ w. plus (base_mark n d k w)))
 
-    base_short : d * n + d ≤ m → All Short (base gs p d)
+    base_short : d * n + d ≤ m → AllOf Short (base gs p d)
     base_short h =
         All-append Short (base_frames gs d ++ base_marks n d) (base_bad n p d ∷ [])
         (All-append Short (base_frames gs d) (base_marks n d) (frames_short true gs d) (all_across Short d (λ i. mark_clauses n i (base_mark n d i)) (λ i _. marks_short n i (base_mark n d i))))
         (omega (arith, base_bad_length), tt)
 
-    good_short : (i : ℕ) → All Short (good_frame n p i)
+    good_short : (i : ℕ) → AllOf Short (good_frame n p i)
     good_short i =
         All-append Short (across n (λ w. defined n i w ∷ [])) ((plus (rail_var n i (rail1 p)) ∷ []) ∷ [])
         (all_across Short n (λ w. defined n i w ∷ []) (λ w _. (omega arith, tt))) (omega arith, tt)
@@ -103,7 +103,7 @@ module _ (m : ℕ) (three : 3 ≤ m) where
     step_bad_length =
         length-append (across n (λ w. plus (step_mark n d w) ∷ [])) (minus (rail_var n d (rail1 p)) ∷ []) ∙ omega (arith, singles_length n (λ w. plus (step_mark n d w)))
 
-    pair_short : n + 1 ≤ m → (i j : ℕ) → All Short (pair_clauses gs d i j)
+    pair_short : n + 1 ≤ m → (i j : ℕ) → AllOf Short (pair_clauses gs d i j)
     pair_short h i j =
         All-append Short (across n (λ w. on_register (driver gs w) (differs n i j w (difference_mark gs d i j w))))
         (across n (λ w. on_register (driver gs w) (plus (difference_mark gs d i j w) ∷ [])) ∷ [])
@@ -111,7 +111,7 @@ module _ (m : ℕ) (three : 3 ≤ m) where
         (λ w _. register_short (driver gs w) (differs n i j w (difference_mark gs d i j w)) (omega arith, (omega arith, tt))))
         (omega (arith, registers_length n (driver gs) (λ w. plus (difference_mark gs d i j w))), tt)
 
-    step_short : n + 1 ≤ m → All Short (step gs p d)
+    step_short : n + 1 ≤ m → AllOf Short (step gs p d)
     step_short h =
         let a = step_frames gs d in
         let b = step_good n p d in
@@ -124,13 +124,13 @@ module _ (m : ℕ) (three : 3 ≤ m) where
         (marks_short n d (step_mark n d))) (omega (arith, step_bad_length), tt))
         (all_across Short (d + 1) (λ j. across j (λ i. pair_clauses gs d i j)) (λ j _. all_across Short j (λ i. pair_clauses gs d i j) (λ i _. pair_short h i j)))
 
-literals_short : (m : ℕ) (cs : List Clause) → All (λ c. length c ≤ m) cs → (k : ℕ) → length (literals (numbered cs k)) ≤ m
+literals_short : (m : ℕ) (cs : List Clause) → AllOf (λ c. length c ≤ m) cs → (k : ℕ) → length (literals (numbered cs k)) ≤ m
 literals_short m cs h zero = omega arith
 literals_short m [] h (suc k) = omega arith
 literals_short m (c ∷ cs) h (suc zero) = h.0
 literals_short m (c ∷ cs) h (suc (suc k)) = literals_short m cs h.1 (suc k)
 
-all_short : (kind : FormulaKind) (f : Formula) → All (λ c. length c ≤ 2056) (formula_clauses kind (sheet f.board))
+all_short : (kind : FormulaKind) (f : Formula) → AllOf (λ c. length c ≤ 2056) (formula_clauses kind (sheet f.board))
 all_short Base f =
     let gs = (sheet f.board).gates in
     let d = (sheet f.board).depth in

@@ -1,6 +1,6 @@
 -- Every literal of the formulas is one of their variables or its negative.
 use Rattle.std.proofs.Common.{◌≡◌, ℕ, zero, suc, ◌+◌, ◌*◌, ◌<◌, ◌≤◌, Bool, true, false, List, [], ◌∷◌, ◌++◌, length, get_or, refl, arith}
-use Rattle.std.specs.List.{AllByRecursion as All}
+use Rattle.std.specs.List.{AllByRecursion as AllOf}
 use Rattle.std.proofs.lemmas.Nat.{mul-add-lt}
 use Rattle.std.proofs.ByRecursion.{All-append}
 use Rattle.values.specs.Sides.{Rail, rail0, rail1, Right, fixed, one, either, both, two_boths, Sides}
@@ -36,7 +36,7 @@ rail_below n frames i l (rail0 w) h = let k : 2 * w < 2 * n = omega arith in ome
 rail_below n frames i l (rail1 w) h = let k : 2 * w + 1 < 2 * n = omega arith in omega (arith, mul-add-lt i (2 * n) (2 * w + 1) frames l k)
 
 -- what holds of a list at a register
-on_register_all : {X : Type 0} (P : X → Type 0) (g : Gate) (c : List X) → (is_register g ≡ true → All P c) → All P (on_register (drive g) c)
+on_register_all : {X : Type 0} (P : X → Type 0) (g : Gate) (c : List X) → (is_register g ≡ true → AllOf P c) → AllOf P (on_register (drive g) c)
 on_register_all P Input c h = tt
 on_register_all P Zero c h = tt
 on_register_all P One c h = tt
@@ -61,7 +61,7 @@ module _ (gs : List Gate) (own : named (length gs) gs ≡ true) (frames V : ℕ)
 
   sides_over : (i : ℕ) → i < frames → (w : ℕ) → w < length gs → (s : Sides ℕ) → DrivesBelow (length gs) (settled s) → (starts : Bool) → Over V (driven starts (length gs) i w (settled s))
   sides_over i l w h s u starts =
-      All-append (All (Within V)) (equation (rail_var (length gs) i) (rail_var (length gs) i (rail0 w)) s.side0) (equation (rail_var (length gs) i) (rail_var (length gs) i (rail1 w)) s.side1)
+      All-append (AllOf (Within V)) (equation (rail_var (length gs) i) (rail_var (length gs) i (rail0 w)) s.side0) (equation (rail_var (length gs) i) (rail_var (length gs) i (rail1 w)) s.side1)
       (equation_over (length gs) V (rail_var (length gs) i (rail0 w)) (rail_var (length gs) i) (in_frame i l (rail0 w) h) (in_frame i l) s.side0 u.0)
       (equation_over (length gs) V (rail_var (length gs) i (rail1 w)) (rail_var (length gs) i) (in_frame i l (rail1 w) h) (in_frame i l) s.side1 u.1)
 
@@ -75,7 +75,7 @@ module _ (gs : List Gate) (own : named (length gs) gs ≡ true) (frames V : ℕ)
 
   frame_over : (starts : Bool) (i : ℕ) → i < frames → Over V (frame_clauses starts gs i)
   frame_over starts i l =
-      all_across (All (Within V)) (length gs) (λ w. apart (length gs) i w ∷ driven starts (length gs) i w (driver gs w))
+      all_across (AllOf (Within V)) (length gs) (λ w. apart (length gs) i w ∷ driven starts (length gs) i w (driver gs w))
       (λ w h.
       let a = in_frame i l (rail0 w) h in
       let b = in_frame i l (rail1 w) h in
@@ -83,7 +83,7 @@ module _ (gs : List Gate) (own : named (length gs) gs ≡ true) (frames V : ℕ)
 
   marks_over : (i : ℕ) → i < frames → (u : ℕ → ℕ) → ((w : ℕ) → w < length gs → u w < V) → Over V (mark_clauses (length gs) i u)
   marks_over i l u k =
-      all_across (All (Within V)) (length gs) (λ w. (minus (u w) ∷ minus (rail_var (length gs) i (rail0 w)) ∷ []) ∷ (minus (u w) ∷ minus (rail_var (length gs) i (rail1 w)) ∷ []) ∷ [])
+      all_across (AllOf (Within V)) (length gs) (λ w. (minus (u w) ∷ minus (rail_var (length gs) i (rail0 w)) ∷ []) ∷ (minus (u w) ∷ minus (rail_var (length gs) i (rail1 w)) ∷ []) ∷ [])
       (λ w h. let a = in_frame i l (rail0 w) h in let b = in_frame i l (rail1 w) h in let c = k w h in omega arith)
 
 pub base_over : BaseOver
@@ -93,10 +93,10 @@ base_over gs p d own within =
     let room : 2 * length gs * d ≤ V = omega arith in
     let mark : (i : ℕ) → i < d → (w : ℕ) → w < length gs → base_mark (length gs) d i w < V =
     λ i l w h. omega (arith, mul-add-lt i (length gs) w d l h) in
-    All-append (All (Within V)) (base_frames gs d ++ base_marks (length gs) d) (base_bad (length gs) p d ∷ [])
-    (All-append (All (Within V)) (base_frames gs d) (base_marks (length gs) d)
-    (all_across (All (Within V)) d (frame_clauses true gs) (frame_over gs own d V room true))
-    (all_across (All (Within V)) d (λ i. mark_clauses (length gs) i (base_mark (length gs) d i)) (λ i l. marks_over gs own d V room i l (base_mark (length gs) d i) (mark i l)))) (
+    All-append (AllOf (Within V)) (base_frames gs d ++ base_marks (length gs) d) (base_bad (length gs) p d ∷ [])
+    (All-append (AllOf (Within V)) (base_frames gs d) (base_marks (length gs) d)
+    (all_across (AllOf (Within V)) d (frame_clauses true gs) (frame_over gs own d V room true))
+    (all_across (AllOf (Within V)) d (λ i. mark_clauses (length gs) i (base_mark (length gs) d i)) (λ i l. marks_over gs own d V room i l (base_mark (length gs) d i) (mark i l)))) (
       All-append (Within V) (across d (λ i. across (length gs) (λ w. plus (base_mark (length gs) d i w) ∷ []))) (across d (λ i. minus (rail_var (length gs) i (rail1 p)) ∷ []))
           (all_across (Within V) d (λ i. across (length gs) (λ w. plus (base_mark (length gs) d i w) ∷ []))
           (λ i l. all_across (Within V) (length gs) (λ w. plus (base_mark (length gs) d i w) ∷ []) (λ w h. let k = mark i l w h in omega arith)))
@@ -120,12 +120,12 @@ module _ (gs : List Gate) (p d : ℕ) (own : named (length gs) gs ≡ true) (wit
 
   good_over : (i : ℕ) → i < d → Over V (good_frame (length gs) p i)
   good_over i l =
-      All-append (All (Within V)) (across (length gs) (λ w. defined (length gs) i w ∷ [])) ((plus (rail_var (length gs) i (rail1 p)) ∷ []) ∷ [])
-      (all_across (All (Within V)) (length gs) (λ w. defined (length gs) i w ∷ [])
+      All-append (AllOf (Within V)) (across (length gs) (λ w. defined (length gs) i w ∷ [])) ((plus (rail_var (length gs) i (rail1 p)) ∷ []) ∷ [])
+      (all_across (AllOf (Within V)) (length gs) (λ w. defined (length gs) i w ∷ [])
       (λ w h. let x = rail i (omega arith) (rail0 w) h in let y = rail i (omega arith) (rail1 w) h in omega arith))
       (let x = rail i (omega arith) (rail1 p) within in omega arith)
 
-  bad_over : All (Within V) (step_bad (length gs) p d)
+  bad_over : AllOf (Within V) (step_bad (length gs) p d)
   bad_over =
       All-append (Within V) (across (length gs) (λ w. plus (step_mark (length gs) d w) ∷ [])) (minus (rail_var (length gs) d (rail1 p)) ∷ [])
       (all_across (Within V) (length gs) (λ w. plus (step_mark (length gs) d w) ∷ []) (λ w h. let k = mark w h in omega arith))
@@ -133,10 +133,10 @@ module _ (gs : List Gate) (p d : ℕ) (own : named (length gs) gs ≡ true) (wit
 
   pair_over : (j : ℕ) → j < d + 1 → (i : ℕ) → i < j → Over V (pair_clauses gs d i j)
   pair_over j h i l =
-      All-append (All (Within V)) (across (length gs) (λ w. on_register (driver gs w) (differs (length gs) i j w (difference_mark gs d i j w))))
+      All-append (AllOf (Within V)) (across (length gs) (λ w. on_register (driver gs w) (differs (length gs) i j w (difference_mark gs d i j w))))
       (across (length gs) (λ w. on_register (driver gs w) (plus (difference_mark gs d i j w) ∷ [])) ∷ [])
-      (all_across (All (Within V)) (length gs) (λ w. on_register (driver gs w) (differs (length gs) i j w (difference_mark gs d i j w)))
-      (λ w k. on_register_all (All (Within V)) (get_or gs w Input) (differs (length gs) i j w (difference_mark gs d i j w))
+      (all_across (AllOf (Within V)) (length gs) (λ w. on_register (driver gs w) (differs (length gs) i j w (difference_mark gs d i j w)))
+      (λ w k. on_register_all (AllOf (Within V)) (get_or gs w Input) (differs (length gs) i j w (difference_mark gs d i j w))
       (λ t. let x = difference i j w l h k t in let y = rail i (omega arith) (rail0 w) k in let z = rail j h (rail0 w) k in omega arith))) (
         all_across (Within V) (length gs) (λ w. on_register (driver gs w) (plus (difference_mark gs d i j w) ∷ []))
             (λ w k. on_register_all (Within V) (get_or gs w Input) (plus (difference_mark gs d i j w) ∷ []) (λ t. let x = difference i j w l h k t in omega arith)),
@@ -150,14 +150,14 @@ module _ (gs : List Gate) (p d : ℕ) (own : named (length gs) gs ≡ true) (wit
       let c = mark_clauses (length gs) d (step_mark (length gs) d) in
       let e = step_bad (length gs) p d ∷ [] in
       let room : 2 * length gs * (d + 1) ≤ V = omega arith in
-      All-append (All (Within V)) (a ++ b ++ c ++ e) (step_pairs gs d)
-      (All-append (All (Within V)) (a ++ b ++ c) e
-      (All-append (All (Within V)) (a ++ b) c
-      (All-append (All (Within V)) a b
-      (all_across (All (Within V)) (d + 1) (frame_clauses false gs) (frame_over gs own (d + 1) V room false))
-      (all_across (All (Within V)) d (good_frame (length gs) p) good_over))
+      All-append (AllOf (Within V)) (a ++ b ++ c ++ e) (step_pairs gs d)
+      (All-append (AllOf (Within V)) (a ++ b ++ c) e
+      (All-append (AllOf (Within V)) (a ++ b) c
+      (All-append (AllOf (Within V)) a b
+      (all_across (AllOf (Within V)) (d + 1) (frame_clauses false gs) (frame_over gs own (d + 1) V room false))
+      (all_across (AllOf (Within V)) d (good_frame (length gs) p) good_over))
       (marks_over gs own (d + 1) V room d (omega arith) (step_mark (length gs) d) mark)) (bad_over, tt))
-      (all_across (All (Within V)) (d + 1) (λ j. across j (λ i. pair_clauses gs d i j)) (λ j h. all_across (All (Within V)) j (λ i. pair_clauses gs d i j) (pair_over j h)))
+      (all_across (AllOf (Within V)) (d + 1) (λ j. across j (λ i. pair_clauses gs d i j)) (λ j h. all_across (AllOf (Within V)) j (λ i. pair_clauses gs d i j) (pair_over j h)))
 
 pub step_over : StepOver
 step_over gs p d own within = step_all gs p d own within

@@ -1,6 +1,6 @@
 -- A refuting list that is accepted item by item is taken whole by a case.
 use Rattle.std.proofs.Common.{◌≡◌, ℕ, List, [], ◌∷◌, Some, Ok, Option, sym, refl, ap, ◌∙◌, subst}
-use Rattle.std.specs.List.{AllByRecursion as All}
+use Rattle.std.specs.List.{AllByRecursion as AllOf}
 use Rattle.boards.specs.Sheets.{Sheet}
 use Rattle.clauses.specs.Clauses.{Clause}
 use Rattle.refutations.specs.Refuting.{Item, line as item-line, strike as item-strike, Refutes}
@@ -30,7 +30,7 @@ refutes_ends V C (item-line n (l ∷ ls) hints ∷ items) clauses last r = refut
 
 one_taken : (room : Room) (s t : State) (c : Call) (calls : List Call) (end : Stage) → judge room s c ≡ (Accepted, t) → TakenWhole room t calls end → TakenWhole room s (c ∷ calls) end
 one_taken room s t c calls end e h =
-    subst (λ r. All (λ a. a ≡ Accepted) (r.0 ∷ (calls_from room r.1 calls).0) × ((calls_from room r.1 calls).1.stage ≡ end)) (sym e) ((refl, h.0), h.1)
+    subst (λ r. AllOf (λ a. a ≡ Accepted) (r.0 ∷ (calls_from room r.1 calls).0) × ((calls_from room r.1 calls).1.stage ≡ end)) (sym e) ((refl, h.0), h.1)
 
 item_accepted : (s : State) (t : Stage) (j : Judged) → j.0 ≡ Ok tt → judge_item s t j ≡ (Accepted, state s.board t j.1)
 item_accepted s t j e = ap (λ v. by_verdict v s (state s.board t j.1)) e

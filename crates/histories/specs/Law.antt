@@ -1,6 +1,6 @@
 -- The law of a case: what holds of it after any list of calls, however many of them were refused.
 use Rattle.std.specs.Prelude.{◌≡◌, ℕ, ◌<◌, ◌≤◌, Bool, true, false, cond, ◌≢◌, ◌⊎◌, ◌↔◌, List, [], ◌∷◌, ◌++◌, map, length, Some, None, Option}
-use Rattle.std.specs.List.{AllByRecursion as All}
+use Rattle.std.specs.List.{AllByRecursion as AllOf}
 use Rattle.refusals.specs.declared.Refusal.{Refusal}
 use Rattle.gates.specs.Records.{record_of}
 use Rattle.values.specs.declared.single.Value.{Value}
@@ -112,7 +112,7 @@ offered marks (item ∷ items) = offer marks item ∷ offered marks items
 
 -- Every call is accepted, and the case ends at this stage.
 abbrev pub TakenWhole : Room → State → List Call → Stage → Type 0
-TakenWhole room s calls end = All (λ a. a ≡ Accepted) (calls_from room s calls).0 × ((calls_from room s calls).1.stage ≡ end)
+TakenWhole room s calls end = AllOf (λ a. a ≡ Accepted) (calls_from room s calls).0 × ((calls_from room s calls).1.stage ≡ end)
 
 -- Each list that refutes the clauses over the variables 1 to V, and whose numbers and costs fit, is taken whole.
 abbrev pub Takes : Room → State → ℕ → List Clause → Stage → Type 0

@@ -1,20 +1,20 @@
 -- Lists of clauses in parts: all of them, and some literal.
 use Rattle.std.proofs.Common.{◌≡◌, ℕ, zero, suc, ◌<◌, Bool, true, false, not, ◌||◌, ◌⊎◌, List, [], ◌∷◌, ◌++◌, sym, refl, ◌∙◌, subst, ⊎_elim, arith, rules, below_more}
 use mathlib.Core.Bool.{false≢true}
-use Rattle.std.specs.List.{AllByRecursion as All}
+use Rattle.std.specs.List.{AllByRecursion as AllOf}
 use Rattle.std.proofs.lemmas.Bool.{or_cases, or_left, or_right, cases_lt}
 use Rattle.clauses.specs.Clauses.{Clause, Valuation, true_literal, some_true, across}
 
 module _ {X : Type 0} (P : X → Type 0) where
-  pub all_split : (xs ys : List X) → All P (xs ++ ys) → All P xs × All P ys
+  pub all_split : (xs ys : List X) → AllOf P (xs ++ ys) → AllOf P xs × AllOf P ys
   all_split [] ys h = (tt, h)
   all_split (x ∷ xs) ys h = let k = all_split xs ys h.1 in ((h.0, k.0), k.1)
 
-  pub across_all : (n : ℕ) (f : ℕ → List X) → All P (across n f) → (i : ℕ) → i < n → All P (f i)
+  pub across_all : (n : ℕ) (f : ℕ → List X) → AllOf P (across n f) → (i : ℕ) → i < n → AllOf P (f i)
   across_all zero f h i l = absurd (omega arith)
   across_all (suc n) f h i l =
       let k = all_split (across n f) (f n) h in
-      below_more (λ j. All P (f j)) n (across_all n f k.0) k.1 i (omega arith)
+      below_more (λ j. AllOf P (f j)) n (across_all n f k.0) k.1 i (omega arith)
 
 module _ (v : Valuation) where
   -- this clause is true

@@ -1,6 +1,6 @@
 -- Frames in a row, good ones and then a bad one, with no state repeated, satisfy the step formula.
 use Rattle.std.proofs.Common.{◌≡◌, ℕ, zero, suc, ◌+◌, ◌-◌, ◌*◌, ◌/◌, ◌%◌, ◌<◌, ◌≤◌, Bool, true, false, cond, not, ◌||◌, ltb, ◌≢◌, ◌⊎◌, List, [], ◌∷◌, ◌++◌, map, length, get_or, sym, ap, ◌∙◌, ap₂, ⊎_elim, arith, rules}
-use Rattle.std.specs.List.{AllByRecursion as All}
+use Rattle.std.specs.List.{AllByRecursion as AllOf}
 use Rattle.std.proofs.lemmas.Nat.{div-mul-add, mod-mul-add}
 use Rattle.std.proofs.ByRecursion.{All-append}
 use Rattle.std.proofs.lemmas.Bool.{lt-ltb, le-ltb, cond-true, cond-false}
@@ -49,7 +49,7 @@ pub compared : (g : Gate) (x y : Value) → (is_register g ≡ true → x ≢ Un
 compared = search rules
 
 module _ (before f : ℕ → Value) (x : Value) (g : Gate) where
-  on_register_all : {X : Type 0} (P : X → Type 0) (k : Drive) → Read before f x g k → (c : List X) → (is_register g ≡ true → All P c) → All P (on_register k c)
+  on_register_all : {X : Type 0} (P : X → Type 0) (k : Drive) → Read before f x g k → (c : List X) → (is_register g ≡ true → AllOf P c) → AllOf P (on_register k c)
   on_register_all = search rules
 
   on_register_some : (v : Valuation) (k : Drive) → Read before f x g k → (c : Clause) → is_register g ≡ true → True v c → True v (on_register k c)

@@ -1,6 +1,6 @@
 -- What a clause says under the marks, in words.
 use Rattle.std.proofs.Common.{◌≡◌, ℕ, Bool, true, false, cond, ◌⊎◌, [], ◌∷◌, ℤ, pos, negsuc, Some, None, Option, sym, refl, ap, ◌∙◌, subst, inl, inr, arith}
-use Rattle.std.specs.List.{AllByRecursion as All}
+use Rattle.std.specs.List.{AllByRecursion as AllOf}
 use Rattle.std.proofs.lemmas.Bool.{eq-eqb}
 use Rattle.clauses.specs.Clauses.{Clause}
 use Rattle.hints.specs.declared.Reading.{Reading}
@@ -87,7 +87,7 @@ module _ (V : ℕ) (m : Marks) where
   -- ---- one literal forced
 
   abbrev Rest : Clause → ℤ → Type 0
-  Rest c l = All (λ k. (k ≡ l) ⊎ False k) c
+  Rest c l = AllOf (λ k. (k ≡ l) ⊎ False k) c
 
   -- the literal is the one from before, or stands in the clause
   abbrev Said : Clause → ℤ → Reading → Type 0

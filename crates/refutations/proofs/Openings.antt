@@ -1,6 +1,6 @@
 -- What a line makes false, in words.
 use Rattle.std.proofs.Common.{◌≡◌, ℕ, zero, suc, Bool, true, false, ◌⊎◌, ◌↔◌, [], ◌∷◌, ℤ, pos, negsuc, neg_ℤ, Some, None, Option, sym, refl, ap, ◌∙◌, subst, inl, inr, arith}
-use Rattle.std.specs.List.{AllByRecursion as All}
+use Rattle.std.specs.List.{AllByRecursion as AllOf}
 use Rattle.std.proofs.ByRecursion.{All-weaker}
 use Rattle.clauses.specs.Clauses.{Clause}
 use Rattle.hints.specs.Hints.{Marks, unset, flipped, value, assign, unless_true, falsified}
@@ -69,7 +69,7 @@ said_more P h ls (Some m) s = λ l q. (λ f. to l ((s l q).0 f), λ x. (s l q).1
     from l (inl (inr i)) = inl i
     from l (inr x) = inr (inr x)
 
-said : (ls : Clause) → All Literal ls → (m : Marks) (P : ℤ → Type 0) → FalseAre m P → Said P ls (falsified m ls)
+said : (ls : Clause) → AllOf Literal ls → (m : Marks) (P : ℤ → Type 0) → FalseAre m P → Said P ls (falsified m ls)
 said [] literals m P are = λ l q. (λ f. inr ((are l q).0 f), none l q)
   where
     none : (l : ℤ) → Literal l → In l [] ⊎ P l → value m l ≡ Some false
@@ -87,7 +87,7 @@ said (h ∷ ls) literals m P are =
     go (Some false) e later = said_more P h ls rest (later (λ t. true_false (value m h) t e))
     go (Some true) e later = (h, inl refl, inr ((are (neg_ℤ h) (neg_literal h literals.0)).0 (neg_of_true m h e)))
 
-literal_in : (l : ℤ) (ls : Clause) → All Literal ls → In l ls → Literal l
+literal_in : (l : ℤ) (ls : Clause) → AllOf Literal ls → In l ls → Literal l
 literal_in l [] literals i = absurd i
 literal_in l (k ∷ ks) literals (inl e) = subst Literal e literals.0
 literal_in l (k ∷ ks) literals (inr i) = literal_in l ks literals.1 i
@@ -101,11 +101,11 @@ nothing_false (pos zero) f = let z : ◌≡◌ {A = ℕ} 0 1 = cc in omega arith
 nothing_false (pos (suc x)) f = let z : ◌≡◌ {A = ℕ} 0 1 = cc in omega arith
 nothing_false (negsuc x) f = let z : ◌≡◌ {A = ℕ} 0 1 = cc in omega arith
 
-module _ (V : ℕ) (line : Clause) (within : All (Within V) line) where
+module _ (V : ℕ) (line : Clause) (within : AllOf (Within V) line) where
   abbrev Clash : Type 0
   Clash = (l : ℤ) × In l line × In (neg_ℤ l) line
 
-  literals : All Literal line
+  literals : AllOf Literal line
   literals = All-weaker (Within V) Literal (λ l w. w.0) line within
 
   line_said : Said (λ l. ⊥) line (falsified unset line)

@@ -1,7 +1,7 @@
 -- The tree of assignments. A node is the list of the values that it gives to the variables 1 to its length, the last variable's
 -- first; its line says "not these values".
 use Rattle.std.proofs.Common.{◌≡◌, ℕ, zero, suc, ◌<◌, ◌≤◌, Bool, true, false, not, eqb, ◌⊎◌, List, [], ◌∷◌, length, ℤ, pos, negsuc, Some, None, Ok, Option, unwrap_or, refl, ap, ◌∙◌, inl, inr, le_refl, arith}
-use Rattle.std.specs.List.{AllByRecursion as All, slice_get}
+use Rattle.std.specs.List.{AllByRecursion as AllOf, slice_get}
 use Rattle.std.specs.Map.{update}
 use Rattle.std.proofs.lemmas.Map.{update_here, update_apart}
 use Rattle.std.proofs.lemmas.Bool.{or_parts, cases_eq, cases_Bool}
@@ -26,7 +26,7 @@ literal_within : (V x : ℕ) (b : Bool) → x < V → Within V (literal x b)
 literal_within V x true h = (omega arith, h)
 literal_within V x false h = (omega arith, h)
 
-pub block_within : (V : ℕ) (bs : List Bool) → length bs ≤ V → All (Within V) (block bs)
+pub block_within : (V : ℕ) (bs : List Bool) → length bs ≤ V → AllOf (Within V) (block bs)
 block_within V [] h = tt
 block_within V (b ∷ bs) h = (literal_within V (length bs) (not b) h, block_within V bs (omega arith))
 
@@ -118,7 +118,7 @@ value_taken m bs marked (pos zero) w = absurd (omega arith)
 value_taken m bs marked (pos (suc x)) w = marked_at m bs marked x (omega arith)
 value_taken m bs marked (negsuc x) w = ap flipped (marked_at m bs marked x (omega arith))
 
-failed_false : (m : Marks) (bs : List Bool) → Marked m bs → (c : Clause) → All (Within (length bs)) c → some_true (taken m) c ≡ false
+failed_false : (m : Marks) (bs : List Bool) → Marked m bs → (c : Clause) → AllOf (Within (length bs)) c → some_true (taken m) c ≡ false
     → AllFalse (length bs) m c
 failed_false m bs marked [] w fails = tt
 failed_false m bs marked (l ∷ ls) w fails =
@@ -127,7 +127,7 @@ failed_false m bs marked (l ∷ ls) w fails =
 
 -- a clause that v makes false, with its place
 abbrev Failed : Valuation → ℕ → List Clause → Type 0
-Failed v V F = (i : ℕ) × (c : Clause) × (i < length F) × (slice_get F i ≡ Some c) × All (Within V) c × (some_true v c ≡ false)
+Failed v V F = (i : ℕ) × (c : Clause) × (i < length F) × (slice_get F i ≡ Some c) × AllOf (Within V) c × (some_true v c ≡ false)
 
 find_failed : (v : Valuation) (V : ℕ) (F : List Clause) → Over V F → Satisfies v F ⊎ Failed v V F
 find_failed v V [] over = inl tt

@@ -1,6 +1,6 @@
 -- Refuting lists: lines that follow by their hints, and strikes, down to the empty line.
 use Rattle.std.specs.Prelude.{◌≡◌, ℕ, ◌<◌, ◌≤◌, true, List, [], ◌∷◌, length, ℤ, is_some, Some, None, Option, nat_eq}
-use Rattle.std.specs.List.{AllByRecursion as All}
+use Rattle.std.specs.List.{AllByRecursion as AllOf}
 use Rattle.std.specs.Map.{update}
 use Rattle.clauses.specs.Clauses.{Clause, variable, numbered}
 use Rattle.hints.specs.Hints.{Follows}
@@ -15,7 +15,7 @@ Within V l = (0 < variable l) × (variable l ≤ V)
 
 -- The line's number is above the last one, its literals are of the variables 1 to V, and it follows from the clauses.
 abbrev pub Fits : ℕ → (ℕ → Option Clause) → ℕ → ℕ → Clause → List ℕ → Type 0
-Fits V clauses last n ls hints = (last < n) × All (Within V) ls × Follows V clauses ls hints
+Fits V clauses last n ls hints = (last < n) × AllOf (Within V) ls × Follows V clauses ls hints
 
 -- The items refute, where the clauses are the formula's, numbered 1 to C, and the lines not yet struck, and `last` is the
 -- number of the last line, or C. The last item is the empty line, and no other is.

@@ -1,6 +1,6 @@
 -- The hint rule in words.
 use Rattle.std.specs.Prelude.{◌≡◌, ℕ, ◌<◌, Bool, true, false, not, ◌≢◌, ◌⊎◌, ◌↔◌, List, [], ◌∷◌, ℤ, neg_ℤ, Some, None, Ok, Err, Option}
-use Rattle.std.specs.List.{AllByRecursion as All}
+use Rattle.std.specs.List.{AllByRecursion as AllOf}
 use Rattle.refusals.specs.declared.Refusal.TheVariants as refusal
 use Rattle.clauses.specs.Clauses.{Clause, variable}
 use Rattle.hints.specs.Hints.{Marks, unset, value, assign, falsified, reading, by_hints}
@@ -27,7 +27,7 @@ MarksInWords =
 -- A line follows at once where it has a literal and its negative; else the line's literals are what is false at first.
 abbrev pub LineInWords : Type 0
 LineInWords =
-    (V : ℕ) (line : Clause) → All (Within V) line
+    (V : ℕ) (line : Clause) → AllOf (Within V) line
     → ((falsified unset line ≡ None) ↔ ((l : ℤ) × In l line × In (neg_ℤ l) line))
     × ((m : Marks) → falsified unset line ≡ Some m → (l : ℤ) → Within V l → (value m l ≡ Some false) ↔ In l line)
 
@@ -35,11 +35,11 @@ LineInWords =
 
 -- Every literal is one of the variables 1 to V, or its negative, and false.
 abbrev pub AllFalse : ℕ → Marks → Clause → Type 0
-AllFalse V m c = All (λ l. Within V l × (value m l ≡ Some false)) c
+AllFalse V m c = AllOf (λ l. Within V l × (value m l ≡ Some false)) c
 
 -- l is unset and stands in the clause, perhaps more than once, and the clause's other literals are false.
 abbrev pub OneUnset : ℕ → Marks → Clause → ℤ → Type 0
-OneUnset V m c l = Within V l × (value m l ≡ None) × In l c × All (λ k. (k ≡ l) ⊎ (Within V k × (value m k ≡ Some false))) c
+OneUnset V m c l = Within V l × (value m l ≡ None) × In l c × AllOf (λ k. (k ≡ l) ⊎ (Within V k × (value m k ≡ Some false))) c
 
 abbrev pub Neither : ℕ → Marks → Clause → Type 0
 Neither V m c = (AllFalse V m c → ⊥) × ((l : ℤ) → OneUnset V m c l → ⊥)

@@ -1,6 +1,6 @@
 -- Rows of w elements each, one after the other.
 use Rattle.std.proofs.Common.{◌≡◌, ℕ, zero, suc, ◌+◌, ◌*◌, ◌%◌, ◌<◌, ◌≤◌, List, [], ◌∷◌, ◌++◌, map, length, get_or, take, drop, sym, refl, ap, ◌∙◌, add-zero, suc-mul, zero-mul, arith}
-use Rattle.std.specs.List.{flat_map, AllByRecursion as All}
+use Rattle.std.specs.List.{flat_map, AllByRecursion as AllOf}
 use Rattle.std.proofs.lemmas.Nat.{mul-le, mod-mul-add}
 use Rattle.std.proofs.lemmas.List.{nil_from_length, length-take-le, length-drop, length-append, length-map, map-append, take-append-drop, take_at, drop_at, drop-drop}
 
@@ -24,7 +24,7 @@ module _ {X : Type 0} (w : ℕ) where
   rest_length : (c : ℕ) (xs : List X) → length xs ≡ suc c * w → length (drop w xs) ≡ c * w
   rest_length c xs e = omega (arith, length-drop w xs, suc-mul c w)
 
-  pub cut_rows : (c : ℕ) (xs : List X) → length xs ≡ c * w → All (λ row. length row ≡ w) (cut c xs)
+  pub cut_rows : (c : ℕ) (xs : List X) → length xs ≡ c * w → AllOf (λ row. length row ≡ w) (cut c xs)
   cut_rows zero xs e = tt
   cut_rows (suc c) xs e = (length-take-le w xs (omega (arith, suc-mul c w)), cut_rows c (drop w xs) (rest_length c xs e))
 
@@ -35,13 +35,13 @@ module _ {X : Type 0} (w : ℕ) where
         ap (λ ys. map f (take w xs) ++ ys) (joined_cut c (drop w xs) (rest_length c xs e)) ∙ sym (map-append f (take w xs) (drop w xs))
         ∙ ap (map f) (take-append-drop w xs)
 
-    pub length_joined : (rows : List (List X)) → All (λ row. length row ≡ w) rows → length (flat_map (map f) rows) ≡ length rows * w
+    pub length_joined : (rows : List (List X)) → AllOf (λ row. length row ≡ w) rows → length (flat_map (map f) rows) ≡ length rows * w
     length_joined [] h = sym (zero-mul w)
     length_joined (row ∷ rows) h =
         length-append (map f row) (flat_map (map f) rows) ∙ omega (arith, length-map row f, h.0, length_joined rows h.1, suc-mul (length rows) w)
 
     -- row k
-    pub row_of : (rows : List (List X)) (k : ℕ) → All (λ row. length row ≡ w) rows → k < length rows → take w (drop (k * w) (flat_map (map f) rows)) ≡ map f (get_or rows k [])
+    pub row_of : (rows : List (List X)) (k : ℕ) → AllOf (λ row. length row ≡ w) rows → k < length rows → take w (drop (k * w) (flat_map (map f) rows)) ≡ map f (get_or rows k [])
     row_of [] k h l = let none : ⊥ = omega arith in absurd none
     row_of (row ∷ rows) zero h l =
         let size : length (map f row) ≡ w = length-map row f ∙ h.0 in

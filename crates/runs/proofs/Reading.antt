@@ -1,6 +1,6 @@
 -- Bytes as rows of inputs.
 use Rattle.std.proofs.Common.{◌≡◌, ℕ, ◌+◌, ◌*◌, ◌<◌, ◌≤◌, Bool, false, List, [], ◌∷◌, ◌++◌, map, length, get_or, take, sym, ap, ◌∙◌, subst, arith}
-use Rattle.std.specs.List.{flat_map, AllByRecursion as All}
+use Rattle.std.specs.List.{flat_map, AllByRecursion as AllOf}
 use Rattle.std.proofs.lemmas.List.{take_more, take_all, map-append, get_or-map, length-map}
 use Rattle.refusals.specs.declared.Failure.{Failure}
 use Rattle.refusals.specs.declared.Failure.TheVariants.{Refused, Memory}
@@ -45,7 +45,7 @@ module _ (gs : List Gate) (d : ℕ) (bytes : List ℕ) where
       let bits = h.0 in
       let rows = cut width count bits in
       let size : length bits ≡ count * width = omega (arith, length-map bits byte, ap length h.1, counts.0) in
-      let run = subst (λ w. All (λ row. length row ≡ w) rows) e (cut_rows width count bits size) in
+      let run = subst (λ w. AllOf (λ row. length row ≡ w) rows) e (cut_rows width count bits size) in
       let many = length_cut width count bits in (
         rows,
         (run, joined_cut width byte count bits size ∙ h.1, λ none. many ∙ counts.1 (e ∙ none)),

@@ -1,6 +1,6 @@
 -- One turn of a run: a row of inputs, the frame that follows, and what is wrong with it.
 use Rattle.std.proofs.Common.{◌≡◌, ℕ, suc, ◌+◌, ◌*◌, ◌<◌, Bool, List, [], ◌++◌, map, length, get_or, take, drop, sym, ap, ◌∙◌, subst, add-one, arith}
-use Rattle.std.specs.List.{AllByRecursion as All}
+use Rattle.std.specs.List.{AllByRecursion as AllOf}
 use Rattle.std.proofs.lemmas.List.{length-drop, length-take-le}
 use Rattle.values.specs.Single.{single}
 use Rattle.values.specs.declared.single.Value.{Value}
@@ -23,7 +23,7 @@ row_length k count width values row l size e =
 inputs_are : (gs : List Gate) (width count k : ℕ) (values row : List Value) (run : List (List Bool)) → HoldsRows gs width count values run → k < count
     → row ≡ take width (drop (k * width) values) → row ≡ map bit (get_or run k [])
 inputs_are gs width count k values row run h l e =
-    let sizes = subst (λ w. All (λ r. length r ≡ w) run) (sym h.1) h.0 in
+    let sizes = subst (λ w. AllOf (λ r. length r ≡ w) run) (sym h.1) h.0 in
     e ∙ ap (λ xs. take width (drop (k * width) xs)) h.3 ∙ row_of width bit run k sizes (omega (arith, h.2))
 
 -- what was told of the frame as it was lent

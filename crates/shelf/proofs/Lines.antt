@@ -1,7 +1,7 @@
 -- The algebra of the lines kept.
 use Rattle.std.proofs.Common.{◌≡◌, ℕ, ◌+◌, ◌<◌, ◌≤◌, Bool, true, false, cond, eqb, ltb, [], ◌∷◌, length, Some, None, Option, unwrap_or, sym, refl, ap, ◌∙◌, arith}
 use mathlib.Core.Path.{fun_ext}
-use Rattle.std.specs.List.{AllByRecursion as All}
+use Rattle.std.specs.List.{AllByRecursion as AllOf}
 use Rattle.std.specs.Map.{update}
 use Rattle.std.proofs.lemmas.Bool.{eqb-true, eqb-false, ltb-true, ltb-false}
 use Rattle.clauses.specs.Clauses.{Clause}
@@ -77,15 +77,15 @@ map_remove n xs = fun_ext (λ k. find_remove n xs k ∙ ap (λ b. cond b None (f
 
 -- ---- the lines stay in order
 
-all_insert : (a n : ℕ) (c : Clause) (xs : Lines) → a < n → All (λ y. a < y.0) xs → All (λ y. a < y.0) (insert n c xs)
+all_insert : (a n : ℕ) (c : Clause) (xs : Lines) → a < n → AllOf (λ y. a < y.0) xs → AllOf (λ y. a < y.0) (insert n c xs)
 all_insert a n c [] h all = (h, tt)
 all_insert a n c (x ∷ xs) h all = go (ltb n x.0) (all_insert a n c xs h all.1)
   where
-    go : (b : Bool) → All (λ y. a < y.0) (insert n c xs) → All (λ y. a < y.0) (cond b ((n, c) ∷ x ∷ xs) (x ∷ insert n c xs))
+    go : (b : Bool) → AllOf (λ y. a < y.0) (insert n c xs) → AllOf (λ y. a < y.0) (cond b ((n, c) ∷ x ∷ xs) (x ∷ insert n c xs))
     go true later = (h, all)
     go false later = (all.0, later)
 
-all_above : (a b : ℕ) (xs : Lines) → a ≤ b → All (λ y. b < y.0) xs → All (λ y. a < y.0) xs
+all_above : (a b : ℕ) (xs : Lines) → a ≤ b → AllOf (λ y. b < y.0) xs → AllOf (λ y. a < y.0) xs
 all_above a b [] h all = tt
 all_above a b (x ∷ xs) h all = (omega (arith, all.0), all_above a b xs h all.1)
 
@@ -102,11 +102,11 @@ rising_insert n c (x ∷ xs) free rising = go (ltb n x.0) refl (eqb n x.0) refl 
         let other = eqb-false n x.0 q in
         (all_insert x.0 n c xs (omega arith) rising.0, later f)
 
-all_remove : (a n : ℕ) (xs : Lines) → All (λ y. a < y.0) xs → All (λ y. a < y.0) (remove n xs)
+all_remove : (a n : ℕ) (xs : Lines) → AllOf (λ y. a < y.0) xs → AllOf (λ y. a < y.0) (remove n xs)
 all_remove a n [] all = tt
 all_remove a n (x ∷ xs) all = go (eqb n x.0) (all_remove a n xs all.1)
   where
-    go : (b : Bool) → All (λ y. a < y.0) (remove n xs) → All (λ y. a < y.0) (cond b (remove n xs) (x ∷ remove n xs))
+    go : (b : Bool) → AllOf (λ y. a < y.0) (remove n xs) → AllOf (λ y. a < y.0) (cond b (remove n xs) (x ∷ remove n xs))
     go true later = later
     go false later = (all.0, later)
 
@@ -119,7 +119,7 @@ rising_remove n (x ∷ xs) rising = go (eqb n x.0) (rising_remove n xs rising.1)
     go false later = (all_remove x.0 n xs rising.0, later)
 
 -- a number below all others is not there
-pub find_below : (n : ℕ) (xs : Lines) → All (λ y. n < y.0) xs → find xs n ≡ None
+pub find_below : (n : ℕ) (xs : Lines) → AllOf (λ y. n < y.0) xs → find xs n ≡ None
 find_below n [] all = refl
 find_below n (x ∷ xs) all = go (eqb n x.0) refl (find_below n xs all.1)
   where

@@ -1,7 +1,7 @@
 -- The lines on a shelf: a finite map from numbers to clauses, and what it costs to keep them.
 use Rattle.std.specs.Prelude.{ℕ, ◌+◌, ◌<◌, Bool, false, cond, not, ◌&&◌, List, [], ◌∷◌, length, is_some, Some, None, Option, ◌==◌, nat_le, nat_lt}
 use Rattle.std.specs.Option.{unwrap_or}
-use Rattle.std.specs.List.{AllByRecursion as All}
+use Rattle.std.specs.List.{AllByRecursion as AllOf}
 use Rattle.clauses.specs.Clauses.{Clause}
 
 -- Each line with its number, in rising order of number, so that there is one list for each map.
@@ -10,7 +10,7 @@ Lines = List (ℕ × Clause)
 
 abbrev pub Rising : Lines → Type 0
 Rising [] = Unit {0}
-Rising (x ∷ xs) = All (λ y. x.0 < y.0) xs × Rising xs
+Rising (x ∷ xs) = AllOf (λ y. x.0 < y.0) xs × Rising xs
 
 abbrev pub find : Lines → ℕ → Option Clause
 find [] k = None

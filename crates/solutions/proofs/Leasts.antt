@@ -1,6 +1,6 @@
 -- Least solutions: there is one only, it depends on the wires of the board alone, and a map that keeps the gates keeps it.
 use Rattle.std.proofs.Common.{◌≡◌, ℕ, zero, suc, ◌<◌, List, [], ◌∷◌, map, length, Some, None, Option, sym, refl, ap, ◌∙◌, subst, arith}
-use Rattle.std.specs.List.{AllByRecursion as All}
+use Rattle.std.specs.List.{AllByRecursion as AllOf}
 use Rattle.std.proofs.lemmas.List.{length-map, ext_get_or}
 use Rattle.values.specs.Kinds.{Kind, Lawful}
 use Rattle.gates.specs.declared.gate.Gate.{Gate}
@@ -39,7 +39,7 @@ module _ {A : Type 0} (K : Kind A) (gs : List Gate) where
     pub given_same : (inputs : List A) (f g : ℕ → A) → ((w : ℕ) → w < length gs → f w ≡ g w) → (w : ℕ) → w < length gs → given K gs inputs f w ≡ given K gs inputs g w
     given_same inputs f g same w l = supplied_same K (length gs) f g same (gate_at gs w) (wires_below gs named w l) (reads K inputs (rank is_input gs w))
 
-all_of : {X : Type 0} (P : X → Type 0) → ((x : X) → P x) → (xs : List X) → All P xs
+all_of : {X : Type 0} (P : X → Type 0) → ((x : X) → P x) → (xs : List X) → AllOf P xs
 all_of P h [] = tt
 all_of P h (x ∷ xs) = (h x, all_of P h xs)
 

@@ -1,6 +1,6 @@
 -- What a gate wants of a frame: it depends on the named wires alone, it rises with them, and a map that keeps the gates keeps it.
 use Rattle.std.proofs.Common.{◌≡◌, ℕ, ◌<◌, refl, ap, ◌∙◌, ap₂}
-use Rattle.std.specs.List.{AllByRecursion as All}
+use Rattle.std.specs.List.{AllByRecursion as AllOf}
 use Rattle.std.proofs.ByRecursion.{All-weaker}
 use Rattle.values.specs.Kinds.{Kind, Lawful}
 use Rattle.gates.specs.declared.gate.Gate.{Gate}
@@ -22,7 +22,7 @@ pub record Related {A B : Type 0} (K : Kind A) (J : Kind B) (R : A → B → Typ
 
 module _ {A B : Type 0} (K : Kind A) (J : Kind B) (R : A → B → Type 0) (f : ℕ → A) (g : ℕ → B) where
   -- frames that are related at the wires of a gate: the values that it wants are related
-  pub wanted_related : Related K J R → (k : Gate) → All (λ a. R (f a) (g a)) (wires k) → (x : A) (y : B) → R x y → R (wanted K k x f) (wanted J k y g)
+  pub wanted_related : Related K J R → (k : Gate) → AllOf (λ a. R (f a) (g a)) (wires k) → (x : A) (y : B) → R x y → R (wanted K k x f) (wanted J k y g)
   wanted_related r Input u x y s = s
   wanted_related r Zero u x y s = r.zero
   wanted_related r One u x y s = r.one
@@ -35,7 +35,7 @@ module _ {A B : Type 0} (K : Kind A) (J : Kind B) (R : A → B → Type 0) (f : 
   wanted_related r (Register a) u x y s = s
 
   -- and so are the values that it is given
-  pub supplied_related : R K.undefined J.undefined → (k : Gate) → All (λ a. R (f a) (g a)) (wires k) → (x : A) (y : B) → R x y → R (supplied K k x f) (supplied J k y g)
+  pub supplied_related : R K.undefined J.undefined → (k : Gate) → AllOf (λ a. R (f a) (g a)) (wires k) → (x : A) (y : B) → R x y → R (supplied K k x f) (supplied J k y g)
   supplied_related r Input u x y s = s
   supplied_related r Zero u x y s = r
   supplied_related r One u x y s = r
@@ -48,7 +48,7 @@ module _ {A B : Type 0} (K : Kind A) (J : Kind B) (R : A → B → Type 0) (f : 
   supplied_related r (Register a) u x y s = u.0
 
   -- frames that are related below n are related at the wires of a gate that names wires below n
-  pub related_below : (n : ℕ) → ((w : ℕ) → w < n → R (f w) (g w)) → (k : Gate) → NamesBelow n k → All (λ a. R (f a) (g a)) (wires k)
+  pub related_below : (n : ℕ) → ((w : ℕ) → w < n → R (f w) (g w)) → (k : Gate) → NamesBelow n k → AllOf (λ a. R (f a) (g a)) (wires k)
   related_below n h k u = All-weaker (λ y. y < n) (λ a. R (f a) (g a)) h (wires k) u
 
 pub order_related : {A : Type 0} (K : Kind A) → Lawful K → Related K K K.below

@@ -1,6 +1,6 @@
 -- The frames of a run, and what makes a frame bad. Boards of any size, runs of any length.
 use Rattle.std.specs.Prelude.{◌≡◌, ℕ, zero, suc, ◌<◌, ◌≤◌, Bool, true, false, ◌≢◌, ◌⊎◌, List, [], map, length, slice_index_or}
-use Rattle.std.specs.List.{AllByRecursion as All}
+use Rattle.std.specs.List.{AllByRecursion as AllOf}
 use Rattle.values.specs.Single.{single}
 use Rattle.values.specs.declared.single.Value.{Value}
 use Rattle.values.specs.declared.single.Value.TheVariants.{Undefined, Zero, One}
@@ -18,7 +18,7 @@ input_count gs = rank is_input gs (length gs)
 
 -- A run: a row of one bit for each input, a row for each frame.
 abbrev pub Run : List Gate → List (List Bool) → Type 0
-Run gs rows = All (λ row. length row ≡ input_count gs) rows
+Run gs rows = AllOf (λ row. length row ≡ input_count gs) rows
 
 -- f is frame k of the run, frames counted from 1; what stands before frame 1 is 0 on every wire.
 abbrev pub Frame : List Gate → List (List Bool) → ℕ → (ℕ → Value) → Type 0

@@ -1,7 +1,7 @@
 -- What is cut from a row, and what stays when a line is put in or taken out.
 use Rattle.std.proofs.Common.{◌≡◌, ℕ, zero, suc, ◌+◌, ◌-◌, ◌<◌, ◌≤◌, true, eqb, List, [], ◌∷◌, ◌++◌, map, length, get_or, take, drop, ℤ, sym, refl, ap, ◌∙◌, ap₂, arith}
 use Rattle.std.proofs.lemmas.List.{drop-drop, take-append-le, drop-append-le, length-drop, length-take-le, take_at, drop_at, take-append-drop}
-use Rattle.std.specs.List.{insert, remove, AllByRecursion as All}
+use Rattle.std.specs.List.{insert, remove, AllByRecursion as AllOf}
 use Rattle.std.proofs.ByRecursion.{All-weaker}
 use Rattle.std.proofs.lemmas.Bool.{eqb-true, eq-eqb, and_parts, and_from}
 use Rattle.clauses.specs.Clauses.{Clause}
@@ -204,14 +204,14 @@ literals_cut [] row h = refl
 literals_cut (e ∷ es) row h =
     omega (arith, length-take-le e.length row (omega arith), literals_cut es (drop e.length row) (omega (arith, length-drop e.length row)))
 
-pub all_start_from : (es : List Entry) (at end : ℕ) → packed at es end ≡ true → All (λ e. at ≤ e.start) es
+pub all_start_from : (es : List Entry) (at end : ℕ) → packed at es end ≡ true → AllOf (λ e. at ≤ e.start) es
 all_start_from [] at end p = tt
 all_start_from (e ∷ es) at end p =
     let q = and_parts (eqb e.start at) (packed (at + e.length) es end) p in
     let here = eqb-true e.start at q.0 in
     (omega arith, All-weaker (λ f. at + e.length ≤ f.start) (λ f. at ≤ f.start) (λ f h. omega arith) es (all_start_from es (at + e.length) end q.1))
 
-pub all_end_by : (es : List Entry) (at end : ℕ) → packed at es end ≡ true → All (λ e. e.start ≤ end) es
+pub all_end_by : (es : List Entry) (at end : ℕ) → packed at es end ≡ true → AllOf (λ e. e.start ≤ end) es
 all_end_by [] at end p = tt
 all_end_by (e ∷ es) at end p =
     let q = and_parts (eqb e.start at) (packed (at + e.length) es end) p in
@@ -220,7 +220,7 @@ all_end_by (e ∷ es) at end p =
 
 -- those behind a line start behind it
 pub all_behind_line : (es : List Entry) (i end : ℕ) (d : Entry) → i < length es → packed 0 es end ≡ true
-    → All (λ e. (get_or es i d).length ≤ e.start) (drop (suc i) es)
+    → AllOf (λ e. (get_or es i d).length ≤ e.start) (drop (suc i) es)
 all_behind_line es i end d h p =
     let whole : packed 0 (take (suc i) es ++ drop (suc i) es) end ≡ true = ap (λ xs. packed 0 xs end) (take-append-drop (suc i) es) ∙ p in
     All-weaker (λ e. 0 + lengths (take (suc i) es) ≤ e.start) (λ e. (get_or es i d).length ≤ e.start) (λ e g. omega (arith, lengths_more es i d h)) (drop (suc i) es) (

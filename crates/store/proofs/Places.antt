@@ -1,6 +1,6 @@
 -- Where a line stands among lines whose numbers rise, and what is added, found and removed there.
 use Rattle.std.proofs.Common.{◌≡◌, ℕ, zero, suc, ◌+◌, ◌<◌, ◌≤◌, Bool, true, false, cond, eqb, ltb, [], ◌∷◌, length, get_or, is_some, Some, None, Option, sym, refl, ap, ◌∙◌, arith}
-use Rattle.std.specs.List.{insert as inserted, remove as removed, AllByRecursion as All, list_all}
+use Rattle.std.specs.List.{insert as inserted, remove as removed, AllByRecursion as AllOf, list_all}
 use Rattle.std.proofs.ByRecursion.{All-get_or, All-weaker}
 use Rattle.std.proofs.lemmas.Bool.{eqb-true, eqb-false, ltb-true, ltb-false, lt-ltb, le-ltb, eq-eqb, ne_eqb, and_parts, and_from, both_ways, cond-true, cond-false}
 use Rattle.clauses.specs.Clauses.{Clause}
@@ -10,12 +10,12 @@ use Rattle.store.specs.Rows.{rises, place, stands, spot}
 
 -- ---- the test for rising numbers
 
-all_from_pass : (n : ℕ) (xs : Lines) → list_all (λ y. ltb n y.0) xs ≡ true → All (λ y. n < y.0) xs
+all_from_pass : (n : ℕ) (xs : Lines) → list_all (λ y. ltb n y.0) xs ≡ true → AllOf (λ y. n < y.0) xs
 all_from_pass n [] e = tt
 all_from_pass n (x ∷ xs) e =
     let p = and_parts (ltb n x.0) (list_all (λ y. ltb n y.0) xs) e in (ltb-true n x.0 p.0, all_from_pass n xs p.1)
 
-pass_from_all : (n : ℕ) (xs : Lines) → All (λ y. n < y.0) xs → list_all (λ y. ltb n y.0) xs ≡ true
+pass_from_all : (n : ℕ) (xs : Lines) → AllOf (λ y. n < y.0) xs → list_all (λ y. ltb n y.0) xs ≡ true
 pass_from_all n [] all = refl
 pass_from_all n (x ∷ xs) all =
     and_from (ltb n x.0) (list_all (λ y. ltb n y.0) xs) (lt-ltb n x.0 all.0) (pass_from_all n xs all.1)
@@ -72,7 +72,7 @@ place_below n (suc k) (x ∷ xs) d h more = go (ltb x.0 n) (place_below n k xs d
 -- ---- whether a line of the number stands at a place
 
 -- what stands in the rest has a number above the first
-above_first : (n a i : ℕ) (xs : Lines) → All (λ y. a < y.0) xs → stands n i xs ≡ true → a < n
+above_first : (n a i : ℕ) (xs : Lines) → AllOf (λ y. a < y.0) xs → stands n i xs ≡ true → a < n
 above_first n a i [] all s = absurd (both_ways false refl s)
 above_first n a zero (x ∷ xs) all s = let same = eqb-true x.0 n s in omega (arith, all.0)
 above_first n a (suc i) (x ∷ xs) all s = above_first n a i xs all.1 s

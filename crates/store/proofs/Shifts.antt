@@ -1,7 +1,7 @@
 -- Parts of a row that change places, and entries changed one after the other.
 use Rattle.std.proofs.Common.{◌≡◌, ℕ, suc, ◌+◌, ◌-◌, ◌<◌, ◌≤◌, List, [], ◌∷◌, ◌++◌, map, length, get_or, take, drop, set, sym, ap, ◌∙◌, subst, ap₂, arith}
 use borrow.Rule.Slice.PartMut.{put_mid}
-use Rattle.std.specs.List.{insert, remove, AllByRecursion as All}
+use Rattle.std.specs.List.{insert, remove, AllByRecursion as AllOf}
 use Rattle.std.proofs.lemmas.List.{length-append, length-drop, length-take-le, length-map, take-append-le, drop-append-le, take_at, drop_at, take_rest, drop-drop, drop_all, take_all, append-nil, append_assoc, get_or_default, get_or-append_right, get_or-drop}
 use Rattle.std.proofs.lemmas.List.Edits.{map_over_more}
 
@@ -82,8 +82,8 @@ module _ {X : Type 0} where
       let behind : drop (length xs - at) (drop at xs) ≡ [] = drop_all (length xs - at) (drop at xs) (omega (arith, length-drop at xs)) in
       ap (λ t. take at xs ++ (ys ++ t)) behind ∙ ap (λ t. take at xs ++ t) (append-nil ys ∙ e) ∙ ap (λ p. take at xs ++ map f p) (take_rest xs at)
 
-  pub all_behind : (P : X → Type 0) (xs ws : List X) (at : ℕ) → ws ≡ xs → All P (drop at xs) → All P (drop at ws)
-  all_behind P xs ws at w all = let Q : List X → Type 0 = λ zs. All P (drop at zs) in subst Q (sym w) all
+  pub all_behind : (P : X → Type 0) (xs ws : List X) (at : ℕ) → ws ≡ xs → AllOf P (drop at xs) → AllOf P (drop at ws)
+  all_behind P xs ws at w all = let Q : List X → Type 0 = λ zs. AllOf P (drop at zs) in subst Q (sym w) all
 
   length_behind : (f : X → X) (xs : List X) (at : ℕ) → at ≤ length xs → length (take at xs ++ map f (drop at xs)) ≡ length xs
   length_behind f xs at h =
@@ -113,8 +113,8 @@ module _ {X : Type 0} where
       refilled ts vs n size ∙ is
       ∙ ap₂ (λ p q. p ++ map f q) (ap (take at) v ∙ take_at (take at xs) (drop (suc at) xs) at front) (ap (drop at) v ∙ drop_at (take at xs) (drop (suc at) xs) at front)
 
-  pub all_left : (P : X → Type 0) (xs vs ws : List X) (at : ℕ) → vs ≡ remove xs at → ws ≡ vs → at < length xs → All P (drop (suc at) xs) → All P (drop at ws)
+  pub all_left : (P : X → Type 0) (xs vs ws : List X) (at : ℕ) → vs ≡ remove xs at → ws ≡ vs → at < length xs → AllOf P (drop (suc at) xs) → AllOf P (drop at ws)
   all_left P xs vs ws at v w h all =
       let e : drop (suc at) xs ≡ drop at ws =
       sym (ap (drop at) (w ∙ v) ∙ drop_at (take at xs) (drop (suc at) xs) at (length-take-le at xs (omega arith))) in
-      subst (All P) e all
+      subst (AllOf P) e all

@@ -1,6 +1,6 @@
 -- What a store holds after a line was put in or taken out.
 use Rattle.std.proofs.Common.{◌≡◌, ℕ, zero, suc, ◌+◌, ◌-◌, ◌<◌, ◌≤◌, Bool, true, false, cond, not, ◌&&◌, ltb, leb, List, [], ◌∷◌, ◌++◌, map, length, get_or, take, drop, ℤ, is_some, Some, None, Option, sym, ap, ◌∙◌, ap₂, arith}
-use Rattle.std.specs.List.{insert as inserted, remove as removed, AllByRecursion as All}
+use Rattle.std.specs.List.{insert as inserted, remove as removed, AllByRecursion as AllOf}
 use Rattle.std.proofs.lemmas.List.{length-append, length-take-le, length-drop}
 use Rattle.std.proofs.ByRecursion.{All-append, All-take, All-drop}
 use Rattle.std.proofs.lemmas.Bool.Decides.{nat_tests}
@@ -72,7 +72,7 @@ put_sound es fs row next c at e s is free start len f r =
 
 -- ---- taken out
 
-all_removed : (a i : ℕ) (xs : Lines) → All (λ y. a < y.0) xs → All (λ y. a < y.0) (removed xs i)
+all_removed : (a i : ℕ) (xs : Lines) → AllOf (λ y. a < y.0) xs → AllOf (λ y. a < y.0) (removed xs i)
 all_removed a i xs all =
     let P : ℕ × Clause → Type 0 = λ y. a < y.0 in All-append P (take i xs) (drop (suc i) xs) (All-take P i xs all) (All-drop P (suc i) xs all)
 

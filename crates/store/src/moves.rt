@@ -1,5 +1,5 @@
 ghost use Rattle.std.specs.Prelude.{◌≡◌, ◌+◌, ◌^◌, ◌<◌, ◌≤◌, ◌∷◌, ◌++◌, map, length, take, drop, vec_len, vec_capacity};
-ghost use Rattle.std.specs.List.{AllByRecursion as All};
+ghost use Rattle.std.specs.List.{AllByRecursion as AllOf};
 ghost use Rattle.store.specs.Rows.{later, earlier};
 
 use crate::entry::Entry;
@@ -36,7 +36,7 @@ pub(crate) fn take_out(row: &mut Vec<i32>, at: usize, count: usize)
 
 /// Says of each line that it was moved on.
 fn move_all_on(entries: &mut [Entry], by: usize)
-    requires { All (λ e. e.start + by < 2 ^ 64) entries.old }
+    requires { AllOf (λ e. e.start + by < 2 ^ 64) entries.old }
     ensures { entries.new ≡ map (later by) entries.old }
 {
     for entry in entries.iter_mut() {
@@ -45,7 +45,7 @@ fn move_all_on(entries: &mut [Entry], by: usize)
 }
 
 fn move_on(entries: &mut [Entry], at: usize, by: usize)
-    requires { (at ≤ length entries.old) × (All (λ e. e.start + by < 2 ^ 64) (drop at entries.old)) }
+    requires { (at ≤ length entries.old) × (AllOf (λ e. e.start + by < 2 ^ 64) (drop at entries.old)) }
     ensures { entries.new ≡ take at entries.old ++ map (later by) (drop at entries.old) }
 {
     move_all_on(&mut entries[at..], by);
@@ -53,7 +53,7 @@ fn move_on(entries: &mut [Entry], at: usize, by: usize)
 
 /// Says of each line that it was moved back.
 fn move_all_back(entries: &mut [Entry], by: usize)
-    requires { All (λ e. by ≤ e.start) entries.old }
+    requires { AllOf (λ e. by ≤ e.start) entries.old }
     ensures { entries.new ≡ map (earlier by) entries.old }
 {
     for entry in entries.iter_mut() {
@@ -62,7 +62,7 @@ fn move_all_back(entries: &mut [Entry], by: usize)
 }
 
 fn move_back(entries: &mut [Entry], at: usize, by: usize)
-    requires { (at ≤ length entries.old) × (All (λ e. by ≤ e.start) (drop at entries.old)) }
+    requires { (at ≤ length entries.old) × (AllOf (λ e. by ≤ e.start) (drop at entries.old)) }
     ensures { entries.new ≡ take at entries.old ++ map (earlier by) (drop at entries.old) }
 {
     move_all_back(&mut entries[at..], by);
@@ -70,7 +70,7 @@ fn move_back(entries: &mut [Entry], at: usize, by: usize)
 
 /// Puts an entry in at a place, and says of the lines behind it that they were moved on.
 pub(crate) fn put_entry(entries: &mut Vec<Entry>, at: usize, entry: Entry)
-    requires { (at ≤ vec_len entries.old) × ((vec_len entries.old < vec_capacity entries.old) × (All (λ e. e.start + entry.length < 2 ^ 64) (drop at entries.old.items))) }
+    requires { (at ≤ vec_len entries.old) × ((vec_len entries.old < vec_capacity entries.old) × (AllOf (λ e. e.start + entry.length < 2 ^ 64) (drop at entries.old.items))) }
     ensures items { entries.new.items ≡ take at entries.old.items ++ entry ∷ map (later entry.length) (drop at entries.old.items) }
     ensures room { vec_capacity entries.old ≤ vec_capacity entries.new }
 {
@@ -81,7 +81,7 @@ pub(crate) fn put_entry(entries: &mut Vec<Entry>, at: usize, entry: Entry)
 
 /// Takes the entry at a place out, and says of the lines behind it that they were moved back.
 pub(crate) fn take_entry(entries: &mut Vec<Entry>, at: usize, by: usize)
-    requires { (at < vec_len entries.old) × (All (λ e. by ≤ e.start) (drop (at + 1) entries.old.items)) }
+    requires { (at < vec_len entries.old) × (AllOf (λ e. by ≤ e.start) (drop (at + 1) entries.old.items)) }
     ensures items { entries.new.items ≡ take at entries.old.items ++ map (earlier by) (drop (at + 1) entries.old.items) }
     ensures room { vec_capacity entries.new ≡ vec_capacity entries.old }
 {

@@ -1,5 +1,5 @@
 use Rattle.std.proofs.Common.{◌≡◌, suc, ◌+◌, ◌≤◌, ◌++◌, map, length, take, drop, ap, ◌∙◌, arith, rules}
-use Rattle.std.specs.List.{AllByRecursion as All}
+use Rattle.std.specs.List.{AllByRecursion as AllOf}
 use Rattle.store.specs.Rows.{earlier}
 use Rattle.store.proofs.Shifts.{all_left, entry_taken}
 use Rattle.store.proofs.moves.take_entry.Goals as goal
@@ -11,7 +11,7 @@ move_back-requires c =
     let long : row.len ≡ length row.items = search rules in
     let shorter : left.len ≡ length left.items = search rules in
     let next : c.args.at + 1 ≡ suc c.args.at = omega arith in
-    let behind : All (λ e. c.args.by ≤ e.start) (drop (suc c.args.at) row.items) = rw next at c.requires.1 in (
+    let behind : AllOf (λ e. c.args.by ≤ e.start) (drop (suc c.args.at) row.items) = rw next at c.requires.1 in (
       omega (arith, c.as_mut_slice.ensures.len, c.remove.ensures.len),
       all_left (λ e. c.args.by ≤ e.start) row.items left.items c.as_mut_slice.result.now c.args.at c.remove.ensures.items c.as_mut_slice.ensures.value (omega arith) behind,
     )

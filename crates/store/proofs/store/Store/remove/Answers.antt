@@ -1,5 +1,5 @@
 use Rattle.std.proofs.Common.{◌≡◌, suc, ◌+◌, ◌<◌, ◌≤◌, ◌++◌, map, length, get_or, take, drop, sym, ap, ◌∙◌, arith, rules}
-use Rattle.std.specs.List.{AllByRecursion as All}
+use Rattle.std.specs.List.{AllByRecursion as AllOf}
 use Rattle.std.proofs.ByRecursion.{All-weaker}
 use Rattle.store.specs.Rows.{earlier}
 use Rattle.store.proofs.Cuts.{length_cut, entry_ends, all_behind_line}
@@ -30,7 +30,7 @@ take_entry-requires c =
     let inside : at < length es = omega (arith, c.requires, length_cut es s.row.items) in
     let len : (get_or es at e).length ≡ e.length = sym (ap (λ x. x.length) c.index-entry.ensures) in
     let next : suc at ≡ at + 1 = omega arith in
-    let behind : All (λ f. e.length ≤ f.start) (drop (suc at) es) =
+    let behind : AllOf (λ f. e.length ≤ f.start) (drop (suc at) es) =
     All-weaker (λ f. (get_or es at e).length ≤ f.start) (λ f. e.length ≤ f.start) (λ f h. omega arith) (drop (suc at) es) (all_behind_line es at (length s.row.items) e inside s.tight) in
     (omega arith, rw next at behind)
 
