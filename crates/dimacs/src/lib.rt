@@ -2,7 +2,7 @@
 
 #![tactic(auto)]
 
-mod clauses;
+mod clause_texts;
 mod literals;
 mod numbers;
 pub mod tell;

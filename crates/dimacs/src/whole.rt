@@ -7,7 +7,7 @@ ghost use Rattle.sources.specs.Meaning.{clauses_of};
 ghost use Rattle.dimacs.specs.Dimacs.{header, clause_text};
 ghost use Rattle.dimacs.specs.Texts.{formula_text};
 
-use crate::clauses::{clause_length, write_clause};
+use crate::clause_texts::{clause_length, write_clause};
 use crate::numbers::write_number;
 use buffers::write_bytes;
 use decimals::decimal_length;

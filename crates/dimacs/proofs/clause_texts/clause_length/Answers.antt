@@ -2,7 +2,7 @@ use Rattle.std.proofs.Common.{◌≡◌, ◌<◌, ◌≤◌, length, get_or, pos
 use Rattle.dimacs.specs.Dimacs.{spaced}
 use Rattle.dimacs.proofs.Lengths.{clause_short}
 use Rattle.dimacs.proofs.Turns.{clause_at, found, ended, length_turn, length_end}
-use Rattle.dimacs.proofs.clauses.clause_length.Goals as goal
+use Rattle.dimacs.proofs.clause_texts.clause_length.Goals as goal
 
 module _ (c : goal.After-literal-length-length) where
   here : (c.literals.place < length (clause_at c.args.formula.now c.args.number)) × (get_or (clause_at c.args.formula.now c.args.number) c.literals.place (pos 0) ≡ c.in-Some.literal)

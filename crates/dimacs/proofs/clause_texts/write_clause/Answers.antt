@@ -7,7 +7,7 @@ use Rattle.buffers.proofs.Rows.{row_turn, row_stop, row_end}
 use Rattle.dimacs.specs.Dimacs.{spaced, clause_text}
 use Rattle.dimacs.proofs.Lengths.{clause_short}
 use Rattle.dimacs.proofs.Turns.{clause_at, found, ended}
-use Rattle.dimacs.proofs.clauses.write_clause.Goals as goal
+use Rattle.dimacs.proofs.clause_texts.write_clause.Goals as goal
 
 pub literals-init : goal.literals-init
 literals-init c = (refl, omega arith, writes_none c.args.at c.args.buffer.now c.requires)

@@ -3,7 +3,7 @@ use Rattle.buffers.proofs.Pieces.{pieces}
 use Rattle.clauses.specs.Clauses.{numbered}
 use Rattle.sources.specs.Meaning.{clauses_of}
 use Rattle.dimacs.specs.Dimacs.{spaced, literals}
-use Rattle.dimacs.proofs.clauses.clause_length.Given as goal
+use Rattle.dimacs.proofs.clause_texts.clause_length.Given as goal
 
 abbrev pub invariant-literals : goal.invariant-literals
 invariant-literals l =
