@@ -1,5 +1,5 @@
 -- Marks are read and written as bytes.
-use Rattle.std.proofs.Common.{◌≡◌, ℕ, zero, suc, ◌-◌, ◌<◌, Bool, true, false, cond, not, eqb, List, length, get_or, set, replicate, ℤ, pos, negsuc, Some, None, Ok, Err, Option, sym, refl, ap, ◌∙◌, ⊎_elim, arith, get_or-set_other, get_or-set_same}
+use Rattle.std.proofs.Common.{◌≡◌, ℕ, zero, suc, ◌-◌, ◌<◌, Bool, true, false, cond, eqb, List, length, get_or, set, replicate, ℤ, pos, negsuc, Some, None, Ok, Err, Option, sym, refl, ap, ◌∙◌, ⊎_elim, arith, get_or-set_other, get_or-set_same}
 use mathlib.Core.Path.{fun_ext}
 use native.Mathlib.Numerals.{unary_clauses}
 use lib.ListN.{get_or-replicate, length-replicate}
@@ -14,11 +14,11 @@ use Rattle.hints.specs.Hints.{Marks, unset, assign, names, falsified, by_hints, 
 
 -- one byte written
 marks_set : (bytes : List ℕ) (x b : ℕ) → x < length bytes → marks_of (set bytes x b) ≡ update eqb (marks_of bytes) x (mark_of b)
-marks_set bytes x b h = fun_ext (λ k. at k (eqb k x) refl)
+marks_set bytes x b h = fun_ext (λ k. at k (eqb x k) refl)
   where
-    at : (k : ℕ) (t : Bool) → eqb k x ≡ t → mark_of (get_or (set bytes x b) k 0) ≡ cond t (mark_of b) (mark_of (get_or bytes k 0))
-    at k true e = ap mark_of (ap (λ j. get_or (set bytes x b) j 0) (eqb-true k x e) ∙ get_or-set_same bytes x b 0 h)
-    at k false e = ap mark_of (get_or-set_other bytes x k b 0 (eqb-false k x e))
+    at : (k : ℕ) (t : Bool) → eqb x k ≡ t → mark_of (get_or (set bytes x b) k 0) ≡ cond t (mark_of b) (mark_of (get_or bytes k 0))
+    at k true e = ap mark_of (ap (λ j. get_or (set bytes x b) j 0) (sym (eqb-true x k e)) ∙ get_or-set_same bytes x b 0 h)
+    at k false e = ap mark_of (get_or-set_other bytes x k b 0 (λ same. eqb-false x k e (sym same)))
 
 -- A literal made true or false is one byte written.
 pub set_assigns : (bytes : List ℕ) (l : ℤ) (to : Bool) (b : ℕ) → names (length bytes) l ≡ true → mark_of b ≡ Some (signed l to)

@@ -100,8 +100,8 @@ fn read_literal<C: ClauseSource>(
     at: usize,
     so_far: Reading,
 ) -> Option<Reading>
-    ensures answer { result ≡ option_map (joined (length marks.now) (marks_of marks.now) so_far) (clause_literal (clauses source.old number) at) }
-    ensures steady { steady source.old source.new }
+    ensures answer { result ≡ option_map (joined (length marks.now) (marks_of marks.now) so_far) (clause_literal (C.clauses source.old number) at) }
+    ensures steady { C.steady source.old source.new }
 {
     let literal = source.literal(number, at)?;
     if !names(marks.len(), literal) {
@@ -112,8 +112,8 @@ fn read_literal<C: ClauseSource>(
 
 /// What the clause of a number says under the marks, if there is one. A slack clause is not read to its end.
 fn read_clause<C: ClauseSource>(source: &mut C, marks: &[u8], number: u32) -> Option<Reading>
-    ensures answer { result ≡ option_map (reading_of (length marks.now) (marks_of marks.now) ReadingConflict) (clauses source.old number) }
-    ensures steady { steady source.old source.new }
+    ensures answer { result ≡ option_map (reading_of (length marks.now) (marks_of marks.now) ReadingConflict) (C.clauses source.old number) }
+    ensures steady { C.steady source.old source.new }
 {
     let length = source.length(number)?;
     let mut reading = Reading::Conflict;
@@ -132,8 +132,8 @@ fn take_hints<C: ClauseSource>(
     marks: &mut [u8],
     hints: &[u32],
 ) -> Result<(), Refusal>
-    ensures answer { result ≡ by_hints (length marks.old) (clauses source.old) (marks_of marks.old) hints.now }
-    ensures steady { steady source.old source.new }
+    ensures answer { result ≡ by_hints (length marks.old) (C.clauses source.old) (marks_of marks.old) hints.now }
+    ensures steady { C.steady source.old source.new }
 {
     for number in hints {
         match read_clause(source, marks, *number) {
@@ -197,9 +197,9 @@ fn judge<C: ClauseSource>(
     literals: &[i32],
     hints: &[u32],
 ) -> Result<(), Refusal>
-    ensures answer { result ≡ screened (length marks.old) (clauses source.old) literals.now hints.now }
+    ensures answer { result ≡ screened (length marks.old) (C.clauses source.old) literals.now hints.now }
     ensures marks { marks.new ≡ replicate (length marks.old) 0 }
-    ensures steady { steady source.old source.new }
+    ensures steady { C.steady source.old source.new }
 {
     marks.fill(0);
     let guard = Marks { bytes: marks };
@@ -223,9 +223,9 @@ pub fn check_line<C: ClauseSource>(
     literals: &[i32],
     hints: &[u32],
 ) -> Result<(), Refusal>
-    ensures answer { result ≡ (if nat_le variables (length marks.old) then screened variables (clauses source.old) literals.now hints.now else Err Buffer) }
+    ensures answer { result ≡ (if nat_le variables (length marks.old) then screened variables (C.clauses source.old) literals.now hints.now else Err Buffer) }
     ensures marks { marks.new ≡ cleared variables marks.old }
-    ensures steady { steady source.old source.new }
+    ensures steady { C.steady source.old source.new }
 {
     if marks.len() < variables {
         return Err(Refusal::Buffer);

@@ -26,7 +26,7 @@ returns g c =
     let false : falsified (marks_of c.fill.new.self) ls ≡ Some m = search rules in
     let told = screened_hints V c.fill.new.self clauses ls c.args.hints.now fresh fit m false in
     record {
-      answer = c.take-hints.ensures.answer ∙ (ap (λ n. by_hints n clauses m c.args.hints.now) size ∙ sym told);
+      answer = c.take_hints.ensures.answer ∙ (ap (λ n. by_hints n clauses m c.args.hints.now) size ∙ sym told);
       marks = search rules;
       steady = search rules;
     }

@@ -12,21 +12,21 @@ pub returns-in-None : goal.returns-in-None
 returns-in-None g c =
     let law = g.met.C.ClauseSource in
     let still = law.same _ _ c.loop-number.invariant.1 in
-    record { answer = grind (arith, hint_absent); steady = law.goes_on _ _ _ c.loop-number.invariant.1 c.read-clause.ensures.steady }
+    record { answer = grind (arith, hint_absent); steady = law.goes_on _ _ _ c.loop-number.invariant.1 c.read_clause.ensures.steady }
 
 pub returns-in-Some-Conflict : goal.returns-in-Some-Conflict
 returns-in-Some-Conflict g c =
     let law = g.met.C.ClauseSource in
     let still = law.same _ _ c.loop-number.invariant.1 in
     let said = c.in-Some-Conflict.ensures.answer in
-    record { answer = grind (arith, hint_conflict); steady = law.goes_on _ _ _ c.loop-number.invariant.1 c.read-clause.ensures.steady }
+    record { answer = grind (arith, hint_conflict); steady = law.goes_on _ _ _ c.loop-number.invariant.1 c.read_clause.ensures.steady }
 
 pub returns-in-Some-Slack : goal.returns-in-Some-Slack
 returns-in-Some-Slack g c =
     let law = g.met.C.ClauseSource in
     let still = law.same _ _ c.loop-number.invariant.1 in
     let said = c.in-Some-Slack.ensures.answer in
-    record { answer = grind (arith, hint_slack); steady = law.goes_on _ _ _ c.loop-number.invariant.1 c.read-clause.ensures.steady }
+    record { answer = grind (arith, hint_slack); steady = law.goes_on _ _ _ c.loop-number.invariant.1 c.read_clause.ensures.steady }
 
 pub set-requires : goal.set-requires
 set-requires g c =
@@ -54,7 +54,7 @@ loop-number-preserved g c =
     let told : Some (Forced l) ≡ option_map (reading V m Conflict) (clauses (get_or hs i 0)) = cc in
     let marked : marks_of c.set.new.marks ≡ assign m l true = simp to_z-of_z at c.set.ensures in
     let next = hint_forced V clauses m hs i l c.loop-number-test.true told in
-    (cc, law.goes_on _ _ _ c.loop-number.invariant.1 c.read-clause.ensures.steady)
+    (cc, law.goes_on _ _ _ c.loop-number.invariant.1 c.read_clause.ensures.steady)
 
 pub returns : goal.returns
 returns g c = record { answer = grind (arith, hint_end); steady = c.loop-number.invariant.1 }
