@@ -10,14 +10,14 @@ use Rattle.refutations.proofs.Soundness.{none_some, sound}
 
 module _ (v : Valuation) (clauses : ℕ → Option Clause) (models : Models v clauses) (n : ℕ) where
   pub models_line : (c : Clause) → some_true v c ≡ true → Models v (update eqb clauses n (Some c))
-  models_line c s k d e = go (eqb k n) e
+  models_line c s k d e = go (eqb n k) e
     where
       go : (t : Bool) → cond t (Some c) (clauses k) ≡ Some d → some_true v d ≡ true
       go true e' = let h : c ≡ d = cc in subst (λ x. some_true v x ≡ true) h s
       go false e' = models k d e'
 
   pub models_strike : Models v (update eqb clauses n None)
-  models_strike k d e = go (eqb k n) e
+  models_strike k d e = go (eqb n k) e
     where
       go : (t : Bool) → cond t None (clauses k) ≡ Some d → some_true v d ≡ true
       go true e' = absurd (none_some d e')

@@ -51,10 +51,10 @@ module _ (v : Valuation) (m : Marks) (agrees : Agrees m v) where
   value_agrees (negsuc x) b e = not_left (v x) b (agrees x (not b) (flipped_some (m x) b e))
 
   update_agrees : (x : ℕ) (w : Bool) → v x ≡ w → Agrees (update eqb m x (Some w)) v
-  update_agrees x w here y b e = go (eqb y x) refl e
+  update_agrees x w here y b e = go (eqb x y) refl e
     where
-      go : (t : Bool) → eqb y x ≡ t → cond t (Some w) (m y) ≡ Some b → v y ≡ b
-      go true q e' = let h : w ≡ b = cc in ap v (eqb-true y x q) ∙ here ∙ h
+      go : (t : Bool) → eqb x y ≡ t → cond t (Some w) (m y) ≡ Some b → v y ≡ b
+      go true q e' = let h : w ≡ b = cc in ap v (sym (eqb-true x y q)) ∙ here ∙ h
       go false q e' = agrees y b e'
 
   assign_agrees : (l : ℤ) (b : Bool) → true_literal v l ≡ b → Agrees (assign m l b) v
