@@ -5,7 +5,7 @@ use Rattle.refusals.specs.declared.Refusal.TheVariants.{Buffer, Number, Literal,
 use Rattle.clauses.specs.Clauses.{Clause}
 use Rattle.hints.specs.Hints.{Verdict, all_fit, checked, screened}
 use Rattle.shelf.specs.Lines.{Lines, Costs, find, insert, remove, keeps}
-use Rattle.shelf.specs.Premises.{of_formula, premises}
+use Rattle.shelf.specs.Premises.{of_formula}
 use Rattle.shelf.proofs.Lines.{remove_none}
 use Rattle.refutations.proofs.Soundness.{sound}
 use Rattle.refuting.specs.Claims.{Holds}

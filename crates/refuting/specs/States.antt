@@ -1,5 +1,5 @@
 -- What a refutation stands for, by the meaning of its formula and its shelf.
-use Rattle.std.specs.Prelude.{ℕ, List, Option}
+use Rattle.std.specs.Prelude.{ℕ, Option}
 use Rattle.clauses.specs.Clauses.{Clause}
 use Rattle.shelf.specs.Lines.{Lines, Costs}
 use Rattle.refuting.specs.Judging.{Terms, Progress, terms, progress}
