@@ -5,8 +5,8 @@ use Rattle.wireclauses.proofs.wire.driven.Goals as goal
 
 pub returns-then-j-size : goal.returns-then-j-size
 returns-then-j-size c =
-    turn_rail0 _ _ _ _ _ _ _ _ _ _ (ap drive_of c.in-Settled.is) c.rail0-a.ensures.is c.right-size-size.ensures c.if-j-size.true c.equation.ensures
+    turn_rail0 _ _ _ _ _ _ _ _ _ _ (ap drive_of c.in-Settled.is) c.rail0-a.ensures.is c.right_size-size.ensures c.if-j-size.true c.equation.ensures
 
 pub returns-else-j-size : goal.returns-else-j-size
 returns-else-j-size c =
-    turn_rail1 _ _ _ _ _ _ _ _ _ _ (ap drive_of c.in-Settled.is) c.rail0-a.ensures.is c.right-size-size.ensures c.if-j-size.false c.equation-else-j-size.ensures
+    turn_rail1 _ _ _ _ _ _ _ _ _ _ (ap drive_of c.in-Settled.is) c.rail0-a.ensures.is c.right_size-size.ensures c.if-j-size.false c.equation-else-j-size.ensures
