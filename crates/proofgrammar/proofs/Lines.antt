@@ -1,7 +1,7 @@
 -- A proof line has one reading.
 use Rattle.std.proofs.Common.{◌≡◌, ℕ, ◌<◌, ◌≤◌, ◌≢◌, List, [], ◌∷◌, ◌++◌, length, drop, ℤ, pos, negsuc, sym, refl, ap, ◌∙◌, arith}
 use Rattle.std.specs.Fmt.{signed_decimal}
-use Rattle.std.specs.List.{AllByRecursion as All}
+use Rattle.std.specs.List.{AllByRecursion}
 use Rattle.std.proofs.lemmas.List.{append_assoc, length-append}
 use Rattle.std.proofs.lemmas.Fmt.{decimal_nonempty}
 use Rattle.clauses.specs.Clauses.{Clause}
@@ -31,16 +31,16 @@ literal_not_d : (l : ℤ) (s t : List ℕ) → Literal l → signed_decimal l ++
 literal_not_d (pos n) s t h e = digit_not n 100 s t h.1 refl e
 literal_not_d (negsuc n) s t h e = let z : ◌≡◌ {A = ℕ} 45 100 = cc in omega arith
 
-pub line_not_d : (ls : Clause) (s t : List ℕ) → All Literal ls → words signed_decimal ls ++ (48 ∷ s) ≢ 100 ∷ t
+pub line_not_d : (ls : Clause) (s t : List ℕ) → AllByRecursion Literal ls → words signed_decimal ls ++ (48 ∷ s) ≢ 100 ∷ t
 line_not_d [] s t h e = let z : ◌≡◌ {A = ℕ} 48 100 = cc in omega arith
 line_not_d (l ∷ ls) s t h e = literal_not_d l (32 ∷ (words signed_decimal ls ++ (48 ∷ s))) t h.0 (sym (word_first literals l ls (48 ∷ s)) ∙ e)
 
-pub one_strike : (ss us r s : List ℕ) → All Number ss → All Number us → strike_body ss r ≡ strike_body us s → (ss ≡ us) × (r ≡ s)
+pub one_strike : (ss us r s : List ℕ) → AllByRecursion Number ss → AllByRecursion Number us → strike_body ss r ≡ strike_body us s → (ss ≡ us) × (r ≡ s)
 one_strike ss us r s h k e =
     let both = one_list numbers ss us (10 ∷ r) (10 ∷ s) h k refl refl (ap (drop 2) e) in
     (both.0, ap (drop 1) both.1)
 
-pub one_line : (ls ms : Clause) (hs is r s : List ℕ) → All Literal ls → All Literal ms → All Number hs → All Number is
+pub one_line : (ls ms : Clause) (hs is r s : List ℕ) → AllByRecursion Literal ls → AllByRecursion Literal ms → AllByRecursion Number hs → AllByRecursion Number is
     → line_body ls hs r ≡ line_body ms is s → (ls ≡ ms) × (hs ≡ is) × (r ≡ s)
 one_line ls ms hs is r s f g h k e =
     let front = one_list literals ls ms (32 ∷ (words text_of hs ++ (48 ∷ 10 ∷ r))) (32 ∷ (words text_of is ++ (48 ∷ 10 ∷ s))) f g refl refl e in

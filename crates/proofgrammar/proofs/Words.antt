@@ -2,7 +2,7 @@
 use Rattle.std.proofs.Common.{◌≡◌, ℕ, suc, ◌<◌, ◌≤◌, Bool, true, false, ◌≢◌, List, [], ◌∷◌, ◌++◌, length, drop, ℤ, pos, negsuc, sym, refl, ap, ◌∙◌, arith}
 use Rattle.std.specs.Char.{is_ascii_digit}
 use Rattle.std.specs.Fmt.{signed_decimal}
-use Rattle.std.specs.List.{AllByRecursion as All}
+use Rattle.std.specs.List.{AllByRecursion}
 use Rattle.std.proofs.lemmas.List.{append_assoc, append-nil}
 use Rattle.decimals.specs.Decimals.{text_of}
 use Rattle.proofgrammar.specs.Grammar.{Number, Literal, words}
@@ -83,8 +83,8 @@ module _ {X : Type 0} {text : X → List ℕ} {Small Good : X → Type 0} {nil :
   nil_first s = ap (λ xs. xs ++ s) k.nil_text
 
   -- What is left of a list behind some words is the rest of the list.
-  pub words_cut : (gs xs : List X) (rest s : List ℕ) → All Good gs → All Good xs → Stops s → words text gs ++ rest ≡ words text xs ++ (48 ∷ s)
-      → (ys : List X) × (xs ≡ gs ++ ys) × All Good ys × (rest ≡ words text ys ++ (48 ∷ s))
+  pub words_cut : (gs xs : List X) (rest s : List ℕ) → AllByRecursion Good gs → AllByRecursion Good xs → Stops s → words text gs ++ rest ≡ words text xs ++ (48 ∷ s)
+      → (ys : List X) × (xs ≡ gs ++ ys) × AllByRecursion Good ys × (rest ≡ words text ys ++ (48 ∷ s))
   words_cut [] xs rest s g h p e = (xs, refl, h, e)
   words_cut (x ∷ gs) [] rest s g h p e =
       let same = k.one x nil (32 ∷ (words text gs ++ rest)) s (k.small x g.0) k.nil_small refl p (sym (word_first x gs rest) ∙ e ∙ sym (nil_first s)) in
@@ -96,30 +96,30 @@ module _ {X : Type 0} {text : X → List ℕ} {Small Good : X → Type 0} {nil :
       (more.0, ap (λ z. z ∷ xs) (sym same.0) ∙ ap (λ zs. x ∷ zs) more.1, more.2, more.3)
 
   -- A list has one reading.
-  pub one_list : (xs ys : List X) (s t : List ℕ) → All Good xs → All Good ys → Stops s → Stops t → words text xs ++ (48 ∷ s) ≡ words text ys ++ (48 ∷ t)
+  pub one_list : (xs ys : List X) (s t : List ℕ) → AllByRecursion Good xs → AllByRecursion Good ys → Stops s → Stops t → words text xs ++ (48 ∷ s) ≡ words text ys ++ (48 ∷ t)
       → (xs ≡ ys) × (s ≡ t)
   one_list xs ys s t g h p q e = let cut = words_cut xs ys (48 ∷ s) t g h q e in at cut.0 cut.1 cut.2 cut.3
     where
-      at : (zs : List X) → ys ≡ xs ++ zs → All Good zs → 48 ∷ s ≡ words text zs ++ (48 ∷ t) → (xs ≡ ys) × (s ≡ t)
+      at : (zs : List X) → ys ≡ xs ++ zs → AllByRecursion Good zs → 48 ∷ s ≡ words text zs ++ (48 ∷ t) → (xs ≡ ys) × (s ≡ t)
       at [] f a r = (sym (f ∙ append-nil xs), ap (drop 1) r)
       at (z ∷ zs) f a r =
           let same = k.one nil z s (32 ∷ (words text zs ++ (48 ∷ t))) k.nil_small (k.small z a.0) p refl (nil_first s ∙ r ∙ word_first z zs (48 ∷ t)) in
           absurd (k.nil_bad z a.0 (sym same.0))
 
   -- No list goes on with what is no word.
-  pub no_word : (gs xs : List X) (rest s : List ℕ) → All Good gs → All Good xs → Stops s
+  pub no_word : (gs xs : List X) (rest s : List ℕ) → AllByRecursion Good gs → AllByRecursion Good xs → Stops s
       → ((x : X) (t : List ℕ) → Small x → Stops t → rest ≢ text x ++ t) → words text gs ++ rest ≢ words text xs ++ (48 ∷ s)
   no_word gs xs rest s g h p none e = let cut = words_cut gs xs rest s g h p e in at cut.0 cut.2 cut.3
     where
-      at : (zs : List X) → All Good zs → rest ≡ words text zs ++ (48 ∷ s) → ⊥
+      at : (zs : List X) → AllByRecursion Good zs → rest ≡ words text zs ++ (48 ∷ s) → ⊥
       at [] a r = none nil s k.nil_small p (r ∙ sym (nil_first s))
       at (z ∷ zs) a r = none z (32 ∷ (words text zs ++ (48 ∷ s))) (k.small z a.0) refl (r ∙ word_first z zs (48 ∷ s))
 
   -- No list goes on with a word that no space follows.
-  pub no_space : (gs xs : List X) (x : X) (t s : List ℕ) → All Good gs → All Good xs → Stops s → Small x → x ≢ nil → Stops t
+  pub no_space : (gs xs : List X) (x : X) (t s : List ℕ) → AllByRecursion Good gs → AllByRecursion Good xs → Stops s → Small x → x ≢ nil → Stops t
       → ((r : List ℕ) → t ≢ 32 ∷ r) → words text gs ++ (text x ++ t) ≢ words text xs ++ (48 ∷ s)
   no_space gs xs x t s g h p l n q none e = let cut = words_cut gs xs (text x ++ t) s g h p e in at cut.0 cut.2 cut.3
     where
-      at : (zs : List X) → All Good zs → text x ++ t ≡ words text zs ++ (48 ∷ s) → ⊥
+      at : (zs : List X) → AllByRecursion Good zs → text x ++ t ≡ words text zs ++ (48 ∷ s) → ⊥
       at [] a r = n (k.one x nil t s l k.nil_small q p (r ∙ sym (nil_first s))).0
       at (z ∷ zs) a r = none (words text zs ++ (48 ∷ s)) (k.one x z t (32 ∷ (words text zs ++ (48 ∷ s))) l (k.small z a.0) q refl (r ∙ word_first z zs (48 ∷ s))).1

@@ -1,6 +1,6 @@
 -- Proof text: lines, each of which adds a clause or strikes clauses.
 use Rattle.std.specs.Prelude.{◌≡◌, ℕ, ◌<◌, ◌≤◌, ◌≢◌, List, [], ◌∷◌, ◌++◌, ℤ}
-use Rattle.std.specs.List.{flat_map, AllByRecursion as All}
+use Rattle.std.specs.List.{flat_map, AllByRecursion}
 use Rattle.std.specs.Fmt.{signed_decimal}
 use Rattle.clauses.specs.Clauses.{Clause, variable}
 use Rattle.decimals.specs.Decimals.{text_of}
@@ -18,8 +18,8 @@ abbrev pub Literal : ℤ → Type 0
 Literal l = Number (variable l)
 
 abbrev pub Proper : Entry → Type 0
-Proper (line n ls hs) = Number n × All Literal ls × All Number hs
-Proper (strike n ss) = Number n × All Number ss
+Proper (line n ls hs) = Number n × AllByRecursion Literal ls × AllByRecursion Number hs
+Proper (strike n ss) = Number n × AllByRecursion Number ss
 
 -- Each word has a space behind it.
 abbrev pub words : {X : Type 0} → (X → List ℕ) → List X → List ℕ

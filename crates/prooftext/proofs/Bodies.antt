@@ -1,7 +1,7 @@
 -- A proof line is read part by part.
 use Rattle.std.proofs.Common.{◌≡◌, ℕ, ◌+◌, ◌≤◌, true, false, List, ◌∷◌, ◌++◌, length, drop, Some, None, sym, refl, ap, ◌∙◌, arith}
 use Rattle.std.specs.Fmt.{signed_decimal}
-use Rattle.std.specs.List.{AllByRecursion as All}
+use Rattle.std.specs.List.{AllByRecursion}
 use Rattle.clauses.specs.Clauses.{Clause}
 use Rattle.decimals.specs.Decimals.{text_of}
 use Rattle.proofgrammar.specs.Grammar.{line, strike, Number, Literal, words}
@@ -23,11 +23,11 @@ module _ (bs : List ℕ) (start value end : ℕ) (small : value ≤ 2147483647) 
   pub front_broken : ByteAt 32 bs end false → FrontAt bs start None
   front_broken none n s g e = none s (one_number value n (drop end bs) (32 ∷ s) small g.1 stops refl (sym here ∙ e)).1
 
-pub tail_broken : (bs : List ℕ) (start end : ℕ) (before row xs : List ℕ) → All Number xs → Stops (drop end bs) → drop start bs ≡ words text_of xs ++ (48 ∷ drop end bs)
+pub tail_broken : (bs : List ℕ) (start end : ℕ) (before row xs : List ℕ) → AllByRecursion Number xs → Stops (drop end bs) → drop start bs ≡ words text_of xs ++ (48 ∷ drop end bs)
     → ByteAt 10 bs end false → NumbersAt tail_text bs start before row None
 tail_broken bs start end before row xs g stops here none ys s h e = none s (one_list numbers xs ys (drop end bs) (10 ∷ s) g h stops refl (sym here ∙ e)).1
 
-module _ (bs : List ℕ) (start end : ℕ) (before after : Rows) (ls : Clause) (good : All Literal ls) (stops : Stops (drop end bs))
+module _ (bs : List ℕ) (start end : ℕ) (before after : Rows) (ls : Clause) (good : AllByRecursion Literal ls) (stops : Stops (drop end bs))
     (here : drop start bs ≡ words signed_decimal ls ++ (48 ∷ drop end bs)) where
   pub body_broken : ByteAt 32 bs end false → BodyAt bs start before after None
   body_broken none ms hs s g h e = none (tail_text hs s) (one_list literals ls ms (drop end bs) (32 ∷ tail_text hs s) good g stops refl (sym here ∙ e)).1

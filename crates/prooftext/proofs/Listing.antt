@@ -1,6 +1,6 @@
 -- A list of words is read word by word.
 use Rattle.std.proofs.Common.{◌≡◌, ℕ, ◌+◌, ◌-◌, ◌<◌, ◌≤◌, false, ◌≢◌, ◌⊎◌, List, [], ◌∷◌, ◌++◌, length, drop, set, ℤ, pos, negsuc, Some, None, sym, ap, ◌∙◌, inl, inr, arith}
-use Rattle.std.specs.List.{AllByRecursion as All}
+use Rattle.std.specs.List.{AllByRecursion}
 use Rattle.std.proofs.lemmas.List.{append_assoc, flat_map_more, length-append, length-drop, length_push}
 use Rattle.std.proofs.ByRecursion.{All-push}
 use Rattle.std.proofs.lemmas.Bool.{cases_lt}
@@ -20,7 +20,7 @@ literal_from_small (pos n) s h = (positive (cases_lt 0 n), s)
 literal_from_small (negsuc n) s h = (omega arith, s)
 
 -- xs are the words read so far, up to the place at.
-module _ {X : Type 0} {text : X → List ℕ} {Small Good : X → Type 0} {nil : X} (k : Kind text Small Good nil) (bs : List ℕ) (start at : ℕ) (before row xs : List X) (good : All Good xs)
+module _ {X : Type 0} {text : X → List ℕ} {Small Good : X → Type 0} {nil : X} (k : Kind text Small Good nil) (bs : List ℕ) (start at : ℕ) (before row xs : List X) (good : AllByRecursion Good xs)
     (held : Held before row xs) (is : drop start bs ≡ words text xs ++ drop at bs) where
   pub list_none : WordAt text Small bs at None → ListAt text Good bs start before row None
   list_none none ys s g h e = no_word k xs ys (drop at bs) s good g h none (sym is ∙ e)
@@ -35,7 +35,7 @@ module _ {X : Type 0} {text : X → List ℕ} {Small Good : X → Type 0} {nil :
 
     -- one more word and its space
     pub list_turn : (n : ℕ) → length xs ≡ n → Good x → drop end bs ≡ 32 ∷ drop (end + 1) bs
-        → (ys : List X) × All Good ys × (length ys ≡ n + 1) × Held before (set row n x) ys × (drop start bs ≡ words text ys ++ drop (end + 1) bs)
+        → (ys : List X) × AllByRecursion Good ys × (length ys ≡ n + 1) × Held before (set row n x) ys × (drop start bs ≡ words text ys ++ drop (end + 1) bs)
     list_turn n size g space = (
       xs ++ x ∷ [],
       All-push Good xs x good g,
