@@ -4,27 +4,27 @@ use Rattle.dimacs.specs.Dimacs.{sign}
 use Rattle.dimacs.proofs.Texts.{spaced_length, spaced_small}
 use Rattle.dimacs.proofs.literals.literal_length.Goals as goal
 
-module _ (c : goal.After-decimal-length) where
+module _ (c : goal.After-decimal_length) where
   same : to_z w32 (of_z w32 c.args.literal) ≡ c.args.literal
   same = to_z-of_z {z = c.args.literal} c.ranges.literal
 
   signs : length c.sign.result.now ≡ length (sign c.args.literal)
   signs = ap length c.sign.ensures ∙ ap (λ l. length (sign l)) same
 
-  size : c.unsigned-abs.result ≡ nat_abs c.args.literal
-  size = c.unsigned-abs.ensures.value ∙ ap nat_abs same
+  size : c.unsigned_abs.result ≡ nat_abs c.args.literal
+  size = c.unsigned_abs.ensures.value ∙ ap nat_abs same
 
-  digits : c.decimal-length.result ≡ length (text_of (nat_abs c.args.literal))
-  digits = c.decimal-length.ensures ∙ ap (λ n. length (text_of n)) size
+  digits : c.decimal_length.result ≡ length (text_of (nat_abs c.args.literal))
+  digits = c.decimal_length.ensures ∙ ap (λ n. length (text_of n)) size
 
-  small : length c.sign.result.now + c.decimal-length.result + 1 ≤ 12
-  small = omega (arith, signs, spaced_small c.args.literal c.decimal-length.result (omega (arith, size, c.unsigned-abs.ensures.bound)) digits)
+  small : length c.sign.result.now + c.decimal_length.result + 1 ≤ 12
+  small = omega (arith, signs, spaced_small c.args.literal c.decimal_length.result (omega (arith, size, c.unsigned_abs.ensures.bound)) digits)
 
-pub overflow-add-result : goal.overflow-add-result
-overflow-add-result c = let h = small c in search rules
+pub overflow_add-result : goal.overflow_add-result
+overflow_add-result c = let h = small c in search rules
 
-pub overflow-add-result-2 : goal.overflow-add-result-2
-overflow-add-result-2 c = let h = small c in search rules
+pub overflow_add-result-2 : goal.overflow_add-result-2
+overflow_add-result-2 c = let h = small c in search rules
 
 pub returns : goal.returns
-returns c = record { is = ap (λ n. n + c.decimal-length.result + 1) (signs c) ∙ spaced_length c.args.literal c.decimal-length.result (digits c); small = small c }
+returns c = record { is = ap (λ n. n + c.decimal_length.result + 1) (signs c) ∙ spaced_length c.args.literal c.decimal_length.result (digits c); small = small c }

@@ -6,21 +6,21 @@ use Rattle.dimacs.specs.Dimacs.{header, clause_text}
 use Rattle.dimacs.proofs.Turns.{lines_turn}
 use Rattle.dimacs.proofs.whole.dimacs_length.Goals as goal
 
-pub overflow-add-length : goal.overflow-add-length
-overflow-add-length c = let few = c.clauses.invariant.2 in search rules
+pub overflow_add-length : goal.overflow_add-length
+overflow_add-length c = let few = c.clauses.invariant.2 in search rules
 
 pub clauses-init : goal.clauses-init
 clauses-init c =
     let first = ap₂ (λ V C. length (header V C)) c.variables-variables.ensures.is c.clauses-clauses.ensures.is in
-    (refl, omega (arith, c.header-length-length.ensures.is, first), c.header-length-length.ensures.small)
+    (refl, omega (arith, c.header_length-length.ensures.is, first), c.header_length-length.ensures.small)
 
 pub clauses-preserved : goal.clauses-preserved
 clauses-preserved c =
     let start = c.args.formula.now in (
-      c.clause-length-length.ensures.same ∙ c.clauses.invariant.0,
-      lines_turn start c.clauses.formula c.clauses.before c.clauses.invariant.0 (length (header (variables_of start) (length (clauses_of start)))) c.clauses.length c.clause-length-length.result
-          (omega (arith, c.clauses-clauses.ensures.is)) c.clause-length-length.ensures.is c.clauses.invariant.1,
-      omega (arith, c.clauses.invariant.2, c.clause-length-length.ensures.small),
+      c.clause_length-length.ensures.same ∙ c.clauses.invariant.0,
+      lines_turn start c.clauses.formula c.clauses.before c.clauses.invariant.0 (length (header (variables_of start) (length (clauses_of start)))) c.clauses.length c.clause_length-length.result
+          (omega (arith, c.clauses-clauses.ensures.is)) c.clause_length-length.ensures.is c.clauses.invariant.1,
+      omega (arith, c.clauses.invariant.2, c.clause_length-length.ensures.small),
     )
 
 pub returns : goal.returns

@@ -5,14 +5,14 @@ use Rattle.dimacs.proofs.whole.dimacs_text.Goals as goal
 
 pub returns : goal.returns
 returns c =
-    let asked = c.dimacs-length.new.formula in
-    let same = ap formula_text c.dimacs-length.ensures.same in
+    let asked = c.dimacs_length.new.formula in
+    let same = ap formula_text c.dimacs_length.ensures.same in
     let size = ap length same in
-    let made = c.in-ok-text.ensures.len in
-    let after = c.write-dimacs.new.buffer in
+    let made = c.in_ok-text.ensures.len in
+    let after = c.write_dimacs.new.buffer in
     record {
-      text = taken_whole (formula_text asked) c.as-mut-slice.result.now after (drop (length after) c.in-ok-text.text.items) c.in-ok-text.text.len
-          (omega (arith, c.as-mut-slice.ensures.len, made, c.dimacs-length.ensures.is, size)) (omega (arith, made, c.dimacs-length.ensures.is, size)) c.in-ok-write-dimacs.ensures.after
+      text = taken_whole (formula_text asked) c.as_mut_slice.result.now after (drop (length after) c.in_ok-text.text.items) c.in_ok-text.text.len
+          (omega (arith, c.as_mut_slice.ensures.len, made, c.dimacs_length.ensures.is, size)) (omega (arith, made, c.dimacs_length.ensures.is, size)) c.in_ok-write_dimacs.ensures.after
           ∙ same;
-      same = c.write-dimacs.ensures.same ∙ c.dimacs-length.ensures.same;
+      same = c.write_dimacs.ensures.same ∙ c.dimacs_length.ensures.same;
     }
