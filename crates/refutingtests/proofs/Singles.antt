@@ -5,6 +5,7 @@ use Rattle.refusals.specs.declared.Refusal.TheVariants.{Space}
 use Rattle.clauses.specs.Clauses.{Clause}
 use Rattle.hints.specs.Hints.{Verdict}
 use Rattle.shelf.specs.Lines.{Lines, find, insert, keeps, affords}
+use Rattle.shelf.proofs.Lines.{map_insert}
 use Rattle.refutingtests.specs.Lone.{lines, cost}
 use Rattle.refutingtests.specs.declared.lone.Lone.{Lone}
 use Rattle.refutingtests.specs.declared.lone.Lone.TheVariants.{Empty}
@@ -20,7 +21,8 @@ module _ (x : Lone) (n : ℕ) (ks ls : Clause) (empty : x ≡ Empty) (size : len
       sym (ap (λ y. cond (keeps 1 cost (lines y) n ls) (Ok tt) (Err Space)) empty ∙ ap (λ k. cond (affords 1 0 (cost k)) (Ok tt) (Err Space)) size)
 
   pub kept_map : find ((n, ks) ∷ []) ≡ update eqb (find (lines x)) n (Some ls)
-  kept_map = ap (λ c. find ((n, c) ∷ [])) same ∙ ap (λ y. update eqb (find (lines y)) n (Some ls)) (sym empty)
+  kept_map =
+      ap (λ c. find ((n, c) ∷ [])) same ∙ map_insert n ls [] refl ∙ ap (λ y. update eqb (find (lines y)) n (Some ls)) (sym empty)
 
   pub kept_lines : ◌≡◌ {A = Lines} ((n, ks) ∷ []) (insert n ls (lines x))
   kept_lines = ap (λ c. (n, c) ∷ []) same ∙ ap (λ y. insert n ls (lines y)) (sym empty)

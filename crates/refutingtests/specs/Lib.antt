@@ -1,2 +1,3 @@
 pub mod Square
 pub mod Lone
+pub mod Laws

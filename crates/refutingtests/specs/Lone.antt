@@ -1,5 +1,5 @@
 -- A shelf for one line of one literal.
-use Rattle.std.specs.Prelude.{ℕ, cond, [], ◌∷◌, Some, None, ◌==◌}
+use Rattle.std.specs.Prelude.{cond, [], ◌∷◌, Some, None, ◌==◌}
 use Rattle.shelf.specs.Lines.{Lines, Costs}
 use Rattle.refutingtests.specs.declared.lone.Lone.{Lone}
 use Rattle.refutingtests.specs.declared.lone.Lone.TheVariants.{Empty, Line}

@@ -1,7 +1,8 @@
 ghost use Rattle.std.specs.Prelude.{◌≡◌};
 ghost use Rattle.shelf.specs.Lines.{find};
 ghost use Rattle.refutingtests.specs.Lone.{lines as lines_of, cost as costOf};
-ghost use Rattle.std.proofs.Common.{rules};
+ghost use Rattle.std.proofs.Common.{refl, ap, ◌∙◌};
+ghost use Rattle.refutingtests.specs.Laws.{lone_costs, lone_rising};
 
 use clauses::ClauseSource;
 use refusals::Refusal;
@@ -19,11 +20,11 @@ impl ClauseSource for Lone {
 
     ghost steady = { λ x y. lines_of y ≡ lines_of x };
 
-    ghost stays = { Prim.search rules };
+    ghost stays = { λ _. refl };
 
-    ghost goes_on = { Prim.search rules };
+    ghost goes_on = { λ x y z p q. q ∙ p };
 
-    ghost same = { Prim.search rules };
+    ghost same = { λ _ _ p. ap find p };
 
     fn length(&mut self, number: u32) -> Option<usize> {
         match *self {
@@ -47,15 +48,15 @@ impl Shelf for Lone {
 
     ghost cost = { costOf };
 
-    ghost costs_something = { Prim.search rules };
+    ghost costs_something = { lone_costs };
 
-    ghost rising = { Prim.search rules };
+    ghost rising = { lone_rising };
 
-    ghost shown = { Prim.search rules };
+    ghost shown = { λ _. refl };
 
-    ghost lines_stay = { Prim.search rules };
+    ghost lines_stay = { λ _ _ p. p };
 
-    ghost capacity_stays = { Prim.search rules };
+    ghost capacity_stays = { λ _ _ _. refl };
 
     fn capacity(&self) -> usize {
         1

@@ -1,5 +1,5 @@
 ghost use Rattle.refutingtests.specs.Square.{square};
-ghost use Rattle.std.proofs.Common.{rules};
+ghost use Rattle.std.proofs.Common.{refl};
 
 use clauses::ClauseSource;
 
@@ -25,11 +25,11 @@ impl ClauseSource for Square {
 
     ghost steady = { λ _ _. Unit {0} };
 
-    ghost stays = { Prim.search rules };
+    ghost stays = { λ _. tt };
 
-    ghost goes_on = { Prim.search rules };
+    ghost goes_on = { λ _ _ _ _ _. tt };
 
-    ghost same = { Prim.search rules };
+    ghost same = { λ _ _ _. refl };
 
     fn length(&mut self, number: u32) -> Option<usize> {
         self.asked = self.asked.saturating_add(1);
