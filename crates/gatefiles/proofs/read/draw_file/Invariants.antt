@@ -8,7 +8,7 @@ use Rattle.gatefiles.proofs.read.draw_file.Given as goal
 abbrev pub invariant-records : goal.invariant-records
 invariant-records l =
     (gs : List Gate) × (l.file ≡ flat_map record_of gs ++ l.rest) × (vec_items l.drawing.gates ≡ take 256 gs)
-    × (l.too-many ≡ ltb 256 (length gs))
+    × (l.too_many ≡ ltb 256 (length gs))
 
 abbrev pub decreases-records : goal.decreases-records
 decreases-records l = length l.rest

@@ -3,8 +3,8 @@ use Rattle.gatefiles.proofs.GateFiles.{records_turn_length, records_all, file_le
 use Rattle.boards.specs.Sheets.{sheet}
 use Rattle.gatefiles.proofs.write.file_length.Goals as goal
 
-pub overflow-add-length : goal.overflow-add-length
-overflow-add-length c = search rules
+pub overflow_add-length : goal.overflow_add-length
+overflow_add-length c = search rules
 
 pub loop-gate-preserved : goal.loop-gate-preserved
 loop-gate-preserved c =

@@ -2,4 +2,4 @@ use Rattle.buffers.proofs.Writing.{put_is}
 use Rattle.gatefiles.proofs.write.put.Goals as goal
 
 pub returns : goal.returns
-returns c = put_is c.args.at c.args.buffer.now c.copy-from-slice.new.self c.args.bytes.now c.copy-from-slice.ensures.after
+returns c = put_is c.args.at c.args.buffer.now c.copy_from_slice.new.self c.args.bytes.now c.copy_from_slice.ensures.after

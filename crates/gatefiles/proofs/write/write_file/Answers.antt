@@ -15,20 +15,20 @@ piece_is bytes whole size e = let same : size - 0 ≡ size = omega arith in ap (
 pub put-requires : goal.put-requires
 put-requires c =
     let fits = turn_fits (sheet c.args.board.now) c.gates-gate-items.result.now c.gates-gate-items.ensures c.loop-gate.gate-index c.loop-gate-test.true in
-    let long = ap length (piece_is c.to-record-record.result.bytes _ c.to-record-record.result.length c.to-record-record.ensures.bytes) in
+    let long = ap length (piece_is c.to_record-record.result.bytes _ c.to_record-record.result.length c.to_record-record.ensures.bytes) in
     omega arith
 
-pub overflow-add-at : goal.overflow-add-at
-overflow-add-at c =
+pub overflow_add-at : goal.overflow_add-at
+overflow_add-at c =
     let fits = turn_fits (sheet c.args.board.now) c.gates-gate-items.result.now c.gates-gate-items.ensures c.loop-gate.gate-index c.loop-gate-test.true in
     search rules
 
 pub loop-gate-preserved : goal.loop-gate-preserved
 loop-gate-preserved c =
-    let piece = piece_is c.to-record-record.result.bytes _ c.to-record-record.result.length c.to-record-record.ensures.bytes in
+    let piece = piece_is c.to_record-record.result.bytes _ c.to_record-record.result.length c.to_record-record.ensures.bytes in
     write_turn c.gates-gate-items.result.now c.args.buffer.now c.loop-gate.buffer c.loop-gate.at c.loop-gate.gate-index
-    c.loop-gate.invariant.0 c.loop-gate.invariant.1 c.loop-gate-test.true _ c.put.new.buffer c.to-record-record.result.length
-    piece (c.to-record-record.ensures.length.0 ∙ sym (ap length piece)) c.put.ensures
+    c.loop-gate.invariant.0 c.loop-gate.invariant.1 c.loop-gate-test.true _ c.put.new.buffer c.to_record-record.result.length
+    piece (c.to_record-record.ensures.length.0 ∙ sym (ap length piece)) c.put.ensures
 
 pub put-requires-2 : goal.put-requires-2
 put-requires-2 c =
@@ -50,5 +50,5 @@ returns c =
     record {
       answer = grind (arith, nat_tests);
       after = after;
-      readable = (ap (take c.file-length-length.result) after ∙ take_at (file_of (sheet board)) _ c.file-length-length.result (sym c.file-length-length.ensures), file_closes board);
+      readable = (ap (take c.file_length-length.result) after ∙ take_at (file_of (sheet board)) _ c.file_length-length.result (sym c.file_length-length.ensures), file_closes board);
     }
