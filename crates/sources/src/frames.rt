@@ -4,7 +4,7 @@ ghost use Rattle.std.specs.List.{slice_get};
 ghost use Rattle.clauses.specs.Clauses.{across};
 ghost use Rattle.formulas.specs.Formulas.{frame_clauses};
 ghost use Rattle.wireclauses.specs.Literals.{few_of};
-ghost use Rattle.wireclauses.specs.Sizes.{register_size as register-sizeOf};
+ghost use Rattle.wireclauses.specs.Sizes.{register_size as register_size_of};
 ghost use Rattle.sources.specs.Places.{place as place_of, frame_place};
 ghost use Rattle.sources.specs.Meaning.{gates_of, depth_of};
 
@@ -60,7 +60,7 @@ impl Formula {
 
     /// The clause at place k of the frame with i before it.
     fn in_frame(&self, starts: bool, i: usize, k: usize) -> Option<Few>
-        requires { (i ≤ 8) × (k < place_of (gates_of self.now) (register-sizeOf starts i) (length (gates_of self.now))) }
+        requires { (i ≤ 8) × (k < place_of (gates_of self.now) (register_size_of starts i) (length (gates_of self.now))) }
         ensures { option_map few_of result ≡ slice_get (frame_clauses starts (gates_of self.now) i) k }
     {
         let c = register_size(starts, i);

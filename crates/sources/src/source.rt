@@ -3,7 +3,7 @@ ghost use Rattle.boards.specs.Sheets.{sheet};
 ghost use Rattle.formulas.specs.Formulas.{base, step};
 ghost use Rattle.clauses.specs.Clauses.{numbered};
 ghost use Rattle.sources.specs.Meaning.{gates_of, property_of, depth_of, clauses_of, variables_of};
-ghost use Rattle.std.proofs.Common.{rules, arith};
+ghost use Rattle.std.proofs.Common.{◌∙◌, ap, refl};
 
 use crate::formula::{Formula, FormulaKind};
 use crate::rows::row;
@@ -90,11 +90,11 @@ impl ClauseSource for Formula {
     // Nothing is kept of a question.
     ghost steady = { λ x y. y ≡ x };
 
-    ghost stays = { first_of (Prim.search rules, Prim.grind (arith, Self.row.coded.inj)) };
+    ghost stays = { λ x. refl };
 
-    ghost goes_on = { first_of (Prim.search rules, Prim.grind (arith, Self.row.coded.inj)) };
+    ghost goes_on = { λ x y z p q. q ∙ p };
 
-    ghost same = { first_of (Prim.search rules, Prim.grind (arith, Self.row.coded.inj)) };
+    ghost same = { λ x y p. ap (λ f. numbered (clauses_of f)) p };
 
     fn length(&mut self, number: u32) -> Option<usize> {
         let shape = self.numbered(number)?;

@@ -3,14 +3,14 @@ use Rattle.wireclauses.proofs.Wires.{bounded}
 use Rattle.sources.proofs.Marks.{tail_mark, tail_bad, tail_past}
 use Rattle.sources.proofs.tails.base_tail.Goals as goal
 
-pub overflow-cast-mark : goal.overflow-cast-mark
-overflow-cast-mark c = omega (arith, bounded c.args.n c.args.d 256 8 (omega arith) (omega arith))
+pub overflow_cast-mark : goal.overflow_cast-mark
+overflow_cast-mark c = omega (arith, bounded c.args.n c.args.d 256 8 (omega arith) (omega arith))
 
-pub overflow-cast-result : goal.overflow-cast-result
-overflow-cast-result c = omega (arith, bounded c.args.n c.args.d 256 8 (omega arith) (omega arith))
+pub overflow_cast-result : goal.overflow_cast-result
+overflow_cast-result c = omega (arith, bounded c.args.n c.args.d 256 8 (omega arith) (omega arith))
 
-pub overflow-cast-result-then-j-rails-2 : goal.overflow-cast-result-then-j-rails-2
-overflow-cast-result-then-j-rails-2 c = omega (arith, bounded c.args.n c.args.d 256 8 (omega arith) (omega arith))
+pub overflow_cast-result-then-j-rails-2 : goal.overflow_cast-result-then-j-rails-2
+overflow_cast-result-then-j-rails-2 c = omega (arith, bounded c.args.n c.args.d 256 8 (omega arith) (omega arith))
 
 pub returns-then-j-rails : goal.returns-then-j-rails
 returns-then-j-rails c = record { is = tail_mark _ _ _ _ c.if-j-rails.true; ready = tt }

@@ -3,11 +3,11 @@ use Rattle.clauses.specs.Clauses.{plus}
 use Rattle.sources.proofs.Between.{good_at, good_wire, good_property}
 use Rattle.sources.proofs.tails.good.Goals as goal
 
-pub invariant-of-frame : goal.invariant-of-frame
-invariant-of-frame c = let low = good_at c.args.n c.args.p c.args.d c.args.j (omega arith) in (omega arith, (omega (arith, low), tt))
+pub invariant_of-frame : goal.invariant_of-frame
+invariant_of-frame c = let low = good_at c.args.n c.args.p c.args.d c.args.j (omega arith) in record { few = omega arith; shallow = omega (arith, low) }
 
-pub invariant-of-frame-else-w-n : goal.invariant-of-frame-else-w-n
-invariant-of-frame-else-w-n c = let low = good_at c.args.n c.args.p c.args.d c.args.j (omega arith) in (omega arith, (omega (arith, low), tt))
+pub invariant_of-frame-else-w-n : goal.invariant_of-frame-else-w-n
+invariant_of-frame-else-w-n c = let low = good_at c.args.n c.args.p c.args.d c.args.j (omega arith) in record { few = omega arith; shallow = omega (arith, low) }
 
 pub returns-then-w-n : goal.returns-then-w-n
 returns-then-w-n c =

@@ -12,7 +12,7 @@ returns-then-k-frames c =
     let gs = gates_of c.args.self.now in
     let deep = c.depth-d.ensures.is in
     record {
-      is = in_frames _ _ _ _ _ (c.frames-size-frames.ensures.is ∙ ap (frame_place true gs) deep) _ c.if-k-frames.true
+      is = in_frames _ _ _ _ _ (c.frames_size-frames.ensures.is ∙ ap (frame_place true gs) deep) _ c.if-k-frames.true
           (c.short.ensures.is _ _ ∙ (c.in_frames.ensures ∙ ap (λ d. slice_get (across d (frame_clauses true gs)) c.args.k) deep));
       ready = c.short.ensures.ready;
     }
@@ -22,6 +22,6 @@ returns c =
     let gs = gates_of c.args.self.now in
     let deep = c.depth-d.ensures.is in
     record {
-      is = in_tail _ _ _ _ _ (c.frames-size-frames.ensures.is ∙ ap (frame_place true gs) deep) _ _ _ c.base-tail.result c.wires.ensures.is c.property.ensures deep c.if-k-frames.false c.base-tail.ensures.is;
-      ready = c.base-tail.ensures.ready;
+      is = in_tail _ _ _ _ _ (c.frames_size-frames.ensures.is ∙ ap (frame_place true gs) deep) _ _ _ c.base_tail.result c.wires.ensures.is c.property.ensures deep c.if-k-frames.false c.base_tail.ensures.is;
+      ready = c.base_tail.ensures.ready;
     }

@@ -8,6 +8,6 @@ pub returns : goal.returns
 returns c =
     let marks = bounded c.wires.result c.depth-d.result 256 8 (omega arith) (omega arith) in
     record {
-      is = base_counted _ (property_of c.args.self.now) _ _ _ _ c.depth-d.ensures.is c.frames-size.ensures.is c.wires.ensures.is;
+      is = base_counted _ (property_of c.args.self.now) _ _ _ _ c.depth-d.ensures.is c.frames_size.ensures.is c.wires.ensures.is;
       small = omega (arith, marks);
     }

@@ -4,10 +4,10 @@ use Rattle.sources.proofs.formula.Formula.in_frames.Goals as goal
 
 pub returns-then-k-first : goal.returns-then-k-first
 returns-then-k-first c =
-    turn_first _ _ _ _ _ _ (at_end _ _ _ _ _ c.register_size.ensures.is c.wires-n.ensures.is c.place-first.ensures.is) c.if-k-first.true c.requires.1 c.in-frame.ensures
+    turn_first _ _ _ _ _ _ (at_end _ _ _ _ _ c.register_size.ensures.is c.wires-n.ensures.is c.place-first.ensures.is) c.if-k-first.true c.requires.1 c.in_frame.ensures
 
-pub in-frame-requires-2 : goal.in-frame-requires-2
-in-frame-requires-2 c =
+pub in_frame-requires-2 : goal.in_frame-requires-2
+in_frame-requires-2 c =
     frame_in _ _ _ _ _ _ (subst (λ x. 0 < x) c.wires-n.ensures.is c.wires-n.ensures.some)
     (at_end _ _ _ _ _ c.register_size.ensures.is c.wires-n.ensures.is c.place-first.ensures.is)
     (at_end _ _ _ _ _ refl c.wires-n.ensures.is c.place-later.ensures.is)
@@ -18,4 +18,4 @@ returns c =
     turn_later _ _ _ _ _ _ _ (subst (λ x. 0 < x) c.wires-n.ensures.is c.wires-n.ensures.some)
     (at_end _ _ _ _ _ c.register_size.ensures.is c.wires-n.ensures.is c.place-first.ensures.is)
     (at_end _ _ _ _ _ refl c.wires-n.ensures.is c.place-later.ensures.is)
-    c.if-k-first.false c.requires.1 c.in-frame-2.ensures
+    c.if-k-first.false c.requires.1 c.in_frame-2.ensures

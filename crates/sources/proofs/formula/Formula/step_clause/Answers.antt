@@ -12,7 +12,7 @@ returns-then-k-frames c =
     let gs = gates_of c.args.self.now in
     let deep = c.depth-d.ensures.is in
     record {
-      is = step_in_frames _ _ _ _ _ _ (c.frames-size-frames.ensures.is ∙ ap (λ d. frame_place false gs (d + 1)) deep) c.if-k-frames.true
+      is = step_in_frames _ _ _ _ _ _ (c.frames_size-frames.ensures.is ∙ ap (λ d. frame_place false gs (d + 1)) deep) c.if-k-frames.true
           (c.short.ensures.is _ _ ∙ (c.in_frames.ensures ∙ ap (λ d. slice_get (across (d + 1) (frame_clauses false gs)) c.args.k) deep));
       ready = c.short.ensures.ready;
     }
@@ -22,6 +22,6 @@ returns c =
     let gs = gates_of c.args.self.now in
     let deep = c.depth-d.ensures.is in
     record {
-      is = step_in_tail _ _ _ _ _ _ (c.frames-size-frames.ensures.is ∙ ap (λ d. frame_place false gs (d + 1)) deep) c.if-k-frames.false c.step_tail.ensures.is;
+      is = step_in_tail _ _ _ _ _ _ (c.frames_size-frames.ensures.is ∙ ap (λ d. frame_place false gs (d + 1)) deep) c.if-k-frames.false c.step_tail.ensures.is;
       ready = c.step_tail.ensures.ready;
     }

@@ -12,7 +12,7 @@ returns c =
     let pairs : (d + 1) * d / 2 ≤ 36 = omega (arith, square) in
     let different = bounded ((d + 1) * d / 2) (2 * c.register_count.result + 1) 36 513 pairs (omega arith) in
     record {
-      is = step_counted _ (property_of c.args.self.now) _ _ _ _ _ c.depth-d.ensures.is c.frames-size.ensures.is c.wires-n.ensures.is
+      is = step_counted _ (property_of c.args.self.now) _ _ _ _ _ c.depth-d.ensures.is c.frames_size.ensures.is c.wires-n.ensures.is
           c.register_count.ensures.is;
       small = omega (arith, good, different);
     }

@@ -18,6 +18,6 @@ returns-then-rest-n c =
 pub returns : goal.returns
 returns c =
     record {
-      is = turn_pairs _ _ _ _ _ _ c.wires-n.ensures.is c.depth-d.ensures.is _ c.if-k-known.false c.if-rest-n.false c.in-pairs.ensures.is;
-      ready = c.in-pairs.ensures.ready;
+      is = turn_pairs _ _ _ _ _ _ c.wires-n.ensures.is c.depth-d.ensures.is _ c.if-k-known.false c.if-rest-n.false c.in_pairs.ensures.is;
+      ready = c.in_pairs.ensures.ready;
     }

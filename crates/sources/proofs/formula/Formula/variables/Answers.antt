@@ -1,4 +1,4 @@
-use Rattle.std.proofs.Common.{◌≡◌, ◌+◌, ◌*◌, ◌/◌, ◌≤◌, arith, rules}
+use Rattle.std.proofs.Common.{◌+◌, ◌*◌, ◌/◌, ◌≤◌, arith, rules}
 use Rattle.wireclauses.proofs.Wires.{bounded}
 use Rattle.sources.proofs.formula.Formula.variables.Goals as goal
 
