@@ -1,4 +1,4 @@
-use Rattle.std.proofs.Common.{◌≡◌, ◌<◌, ◌≤◌, length, get_or, pos, ap, ◌∙◌, arith, to_z-of_z, w32, SFits, rules}
+use Rattle.std.proofs.Common.{◌≡◌, ◌<◌, length, get_or, pos, ap, ◌∙◌, arith, to_z-of_z, w32, SFits, rules}
 use Rattle.dimacs.specs.Dimacs.{spaced}
 use Rattle.dimacs.proofs.Lengths.{clause_short}
 use Rattle.dimacs.proofs.Turns.{clause_at, found, ended, length_turn, length_end}

@@ -1,4 +1,4 @@
-use Rattle.std.proofs.Common.{◌≡◌, ◌+◌, ◌^◌, ◌≤◌, length, nat_abs, ap, ◌∙◌, arith, to_z-of_z, w32, to_z, of_z, rules}
+use Rattle.std.proofs.Common.{◌≡◌, ◌+◌, ◌≤◌, length, nat_abs, ap, ◌∙◌, arith, to_z-of_z, w32, to_z, of_z, rules}
 use Rattle.decimals.specs.Decimals.{text_of}
 use Rattle.dimacs.specs.Dimacs.{sign}
 use Rattle.dimacs.proofs.Texts.{spaced_length, spaced_small}

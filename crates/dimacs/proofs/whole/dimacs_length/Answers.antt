@@ -1,4 +1,4 @@
-use Rattle.std.proofs.Common.{◌≡◌, ◌+◌, ◌<◌, length, refl, ap, ◌∙◌, ap₂, arith, length-append, rules}
+use Rattle.std.proofs.Common.{length, refl, ap, ◌∙◌, ap₂, arith, length-append, rules}
 use Rattle.std.specs.List.{flat_map}
 use Rattle.buffers.proofs.Pieces.{pieces_all}
 use Rattle.sources.specs.Meaning.{variables_of, clauses_of}

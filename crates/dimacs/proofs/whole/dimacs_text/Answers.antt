@@ -1,4 +1,4 @@
-use Rattle.std.proofs.Common.{◌≡◌, length, drop, ap, ◌∙◌, arith}
+use Rattle.std.proofs.Common.{length, drop, ap, ◌∙◌, arith}
 use Rattle.buffers.proofs.Writing.{taken_whole}
 use Rattle.dimacs.specs.Texts.{formula_text}
 use Rattle.dimacs.proofs.whole.dimacs_text.Goals as goal

@@ -1,4 +1,4 @@
-use Rattle.std.proofs.Common.{◌^◌, ◌<◌, ◌≤◌, arith, rules}
+use Rattle.std.proofs.Common.{◌^◌, ◌<◌, arith, rules}
 use Rattle.dimacs.proofs.Texts.{header_length, digits_small}
 use Rattle.dimacs.proofs.whole.header_length.Goals as goal
 

@@ -1,9 +1,8 @@
-use Rattle.std.proofs.Common.{◌≡◌, ◌++◌, Ok, Err, codes, sym, refl, ap, ◌∙◌, subst}
+use Rattle.std.proofs.Common.{◌++◌, Err, codes, refl, subst}
 use Rattle.std.proofs.lemmas.Result.{err_from_is_err_and}
 use Rattle.buffers.specs.Buffers.{Writes}
 use Rattle.buffers.proofs.Writing.{writes_is, writes_then, writes_stop}
 use Rattle.decimals.specs.Decimals.{text_of}
-use Rattle.dimacs.specs.Dimacs.{header}
 use Rattle.dimacs.proofs.Texts.{header_is}
 use Rattle.dimacs.proofs.whole.write_header.Goals as goal
 
