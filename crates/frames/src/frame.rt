@@ -2,7 +2,7 @@ ghost use Rattle.std.specs.Prelude.{◌≡◌, ◌≤◌, true, not, length, rep
 ghost use Rattle.std.specs.Option.{option_map};
 ghost use Rattle.gates.specs.Gates.{named};
 ghost use Rattle.boards.specs.Sheets.{sheet};
-ghost use Rattle.solutions.specs.Solutions.{reads, wanted as wantedOf, supplied, frame_before, Least};
+ghost use Rattle.solutions.specs.Solutions.{reads, wanted as wanted_of, supplied, frame_before, Least};
 ghost use Rattle.solutions.specs.Rounds.{round, same_row, most_rounds, frame_rounds, frame_row};
 ghost use Rattle.frames.specs.Frames.{frame_given, long_before, frame_answer, row_after};
 
@@ -24,7 +24,7 @@ fn at<V: ValueKind>(row: &[V], wire: usize) -> V
 
 /// The value that a wire should have; `given` is what an input or a register is given.
 fn wanted<V: ValueKind>(gate: Gate, given: V, row: &[V]) -> V
-    ensures { result ≡ wantedOf V.ValueKind.meaning gate given (reads V.ValueKind.meaning row.now) }
+    ensures { result ≡ wanted_of V.ValueKind.meaning gate given (reads V.ValueKind.meaning row.now) }
 {
     match gate {
         Gate::Input | Gate::Register(_) => given,

@@ -10,7 +10,7 @@ use Rattle.gates.specs.Records.{record_of, first_record}
 use Rattle.refusals.specs.declared.Refusal.{Refusal}
 use Rattle.boards.specs.declared.board.Board.{Board}
 use Rattle.boards.specs.declared.close.Unclosed.{Unclosed}
-use Rattle.boards.specs.Sheets.{Sheet, sheet, sheet_of, drawn as drawn-of, closing}
+use Rattle.boards.specs.Sheets.{Sheet, sheet, sheet_of, drawn as drawn_of, closing}
 use Rattle.gatefiles.specs.Files.{ending, file_of, file_closing, Misread, Read, Reread}
 use Rattle.gates.proofs.FirstRecord.{first_of}
 
@@ -137,11 +137,11 @@ misread_bad bytes e (inr m) s f n =
     grind arith
 
 module _ (gs : List Gate) (bytes : List ℕ) (empty : gs ≡ []) where
-  pub unread : (u : Unclosed) → drawn-of u.drawing ≡ [] → Misread bytes u.refusal → Read gs bytes (Err u) × Reread gs bytes (Err u)
+  pub unread : (u : Unclosed) → drawn_of u.drawing ≡ [] → Misread bytes u.refusal → Read gs bytes (Err u) × Reread gs bytes (Err u)
   unread u d m = ((d ∙ sym empty, inr (empty, m)), λ s e f n. misread_bad bytes u.refusal m s f n)
 
   pub read_or_not : (s : Sheet) → bytes ≡ file_of s → length s.gates ≤ 256 → (r : Result Board Unclosed)
-      → MatchResult r (λ b. sheet b ≡ s) (λ u. (closing s ≡ Some u.refusal) × (drawn-of u.drawing ≡ [])) → Read gs bytes r × Reread gs bytes r
+      → MatchResult r (λ b. sheet b ≡ s) (λ u. (closing s ≡ Some u.refusal) × (drawn_of u.drawing ≡ [])) → Read gs bytes r × Reread gs bytes r
   read_or_not s e few (Ok b) h = ((empty, e ∙ ap file_of (sym h)), λ t f. h ∙ file_injective s t (sym e ∙ f))
   read_or_not s e few (Err u) h =
       unread u h.1 (inr (s, e, ap (λ b. cond b (closing s) (Some refusal.Full)) (le-leb (length s.gates) 256 few) ∙ h.0))

@@ -1,6 +1,6 @@
 ghost use Rattle.std.specs.Prelude.{◌≡◌, ℕ, ◌≢◌, [], Some, MatchOption, MatchResult};
 ghost use Rattle.boards.specs.Sheets.{drawn, sheet, sheet_of, closing};
-ghost use Rattle.gatefiles.specs.Files.{ending as endingOf, file_of, Misread, Read, Reread};
+ghost use Rattle.gatefiles.specs.Files.{ending as ending_of, file_of, Misread, Read, Reread};
 
 use crate::write::ENDING;
 use boards::{Board, Drawing, Unclosed};
@@ -15,7 +15,7 @@ struct Ending {
 }
 
 fn read_ending(bytes: &[u8]) -> Option<Ending>
-    ensures { MatchOption result ((p d : ℕ) → bytes.now ≢ endingOf p d) (λ e. bytes.now ≡ endingOf e.property e.depth) }
+    ensures { MatchOption result ((p d : ℕ) → bytes.now ≢ ending_of p d) (λ e. bytes.now ≡ ending_of e.property e.depth) }
 {
     match bytes {
         [ENDING, property, depth] => Some(Ending {

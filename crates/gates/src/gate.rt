@@ -1,5 +1,5 @@
 ghost use Rattle.std.specs.Prelude.{◌≡◌};
-ghost use Rattle.gates.specs.Gates.{all_below, wires as wiresOf, is_input, is_register};
+ghost use Rattle.gates.specs.Gates.{all_below, wires as wires_of, is_input, is_register};
 
 /// What drives a wire. A gate names the wires that it reads.
 #[derive(Clone, Copy, PartialEq, Eq, Debug)]
@@ -23,7 +23,7 @@ pub enum Gate {
 impl Gate {
     /// Whether every wire that the gate names is below `wires`.
     pub fn names_below(self, wires: usize) -> bool
-        ensures { result ≡ all_below wires (wiresOf self) }
+        ensures { result ≡ all_below wires (wires_of self) }
     {
         match self {
             Gate::Input | Gate::Zero | Gate::One => true,

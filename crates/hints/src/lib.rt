@@ -5,7 +5,7 @@
 ghost use Rattle.std.specs.Prelude.{◌≡◌, ◌-◌, true, false, length, replicate, if◌then◌else◌, Some, None, Ok, Err, nat_le};
 ghost use Rattle.std.specs.Option.{option_map};
 ghost use Rattle.refusals.specs.declared.Refusal.TheVariants.{Buffer};
-ghost use Rattle.clauses.specs.Clauses.{length_of, clause_literal, variable as variableOf};
+ghost use Rattle.clauses.specs.Clauses.{length_of, clause_literal, variable as variable_of};
 ghost use Rattle.hints.specs.Bytes.{mark_of, marks_of, signed, cleared};
 ghost use Rattle.hints.specs.Hints.{value as value_of, unless_true, falsified, assign, names as names_of, fits as fits_of, all_fit, weighed, joined, reading as reading_of, by_hints, screened};
 ghost use Rattle.hints.specs.declared.Reading.TheVariants.{Conflict as ReadingConflict};
@@ -48,7 +48,7 @@ fn names(variables: usize, literal: i32) -> bool
 
 /// Where the mark of a literal's variable stands.
 fn place(literal: i32) -> usize
-    ensures { result ≡ variableOf literal - 1 }
+    ensures { result ≡ variable_of literal - 1 }
 {
     literal.unsigned_abs().saturating_sub(1) as usize
 }

@@ -5,7 +5,7 @@ use Rattle.sources.specs.declared.formula.FormulaKind.{FormulaKind}
 use Rattle.sources.specs.declared.formula.FormulaKind.TheVariants as kind
 use Rattle.sources.specs.Meaning.{formula_clauses, formula_variables}
 use Rattle.refutations.specs.Claims.{Unsatisfiable}
-use Rattle.refutations.specs.Refuting.{line as item-line, strike as item-strike}
+use Rattle.refutations.specs.Refuting.{line as item_line, strike as item_strike}
 use Rattle.refuting.specs.Judging.{Progress, progress, Judged, judge_line, judge_strike}
 use Rattle.acceptance.specs.Claims.{Kept}
 use Rattle.acceptance.proofs.Invariant.{kept_at_start, kept_stays}
@@ -56,14 +56,14 @@ module _ (room : Room) where
       let p = s.progress in
       let i : KeptAt kind.Base b p = subst (λ z. InvAt z b p) at.0 inv in
       let ok : (judge_line (formula_terms room kind.Base b) p marks n [] hints).0 ≡ Ok tt = subst (λ z. (judge_line (formula_terms room (kind_at z) b) p marks n [] hints).0 ≡ Ok tt) at.0 a.0 in
-      let none = (kept_stays (formula_variables kind.Base b) (formula_clauses kind.Base b) room.capacity room.cost p i marks (item-line n [] hints)).1 n hints refl ok in
+      let none = (kept_stays (formula_variables kind.Base b) (formula_clauses kind.Base b) room.capacity room.cost p i marks (item_line n [] hints)).1 n hints refl ok in
       subst (λ z. Inv z.1) (sym a.1) (subst (λ z. InvAt z b (judge_line (terms_at room s) p marks n [] hints).1) (sym at.1) none)
   empty_keeps s t marks n hints (inr at) r a inv =
       let b = s.board in
       let p = s.progress in
       let i : Refuted kind.Base b × KeptAt kind.Step b p = subst (λ z. InvAt z b p) at.0 inv in
       let ok : (judge_line (formula_terms room kind.Step b) p marks n [] hints).0 ≡ Ok tt = subst (λ z. (judge_line (formula_terms room (kind_at z) b) p marks n [] hints).0 ≡ Ok tt) at.0 a.0 in
-      let none = (kept_stays (formula_variables kind.Step b) (formula_clauses kind.Step b) room.capacity room.cost p i.1 marks (item-line n [] hints)).1 n hints refl ok in
+      let none = (kept_stays (formula_variables kind.Step b) (formula_clauses kind.Step b) room.capacity room.cost p i.1 marks (item_line n [] hints)).1 n hints refl ok in
       subst (λ z. Inv z.1) (sym a.1) (subst (λ z. InvAt z b (judge_line (terms_at room s) p marks n [] hints).1) (sym at.1) (i.0, none))
 
   accepted_keeps : (s : State) (c : Call) (r : Outcome) → TakesCall room s c r → Inv s → Inv r.1
@@ -83,14 +83,14 @@ module _ (room : Room) where
   accepted_keeps s (line marks n (l ∷ ls) hints) r a inv =
       let b = s.board in
       item_keeps s a.0 (λ z. judge_line (formula_terms room (kind_at z) b) s.progress marks n (l ∷ ls) hints) (line_at s.stage a.0 a.1)
-      (λ i. (kept_stays (formula_variables kind.Base b) (formula_clauses kind.Base b) room.capacity room.cost s.progress i marks (item-line n (l ∷ ls) hints)).0)
-      (λ i. (kept_stays (formula_variables kind.Step b) (formula_clauses kind.Step b) room.capacity room.cost s.progress i marks (item-line n (l ∷ ls) hints)).0)
+      (λ i. (kept_stays (formula_variables kind.Base b) (formula_clauses kind.Base b) room.capacity room.cost s.progress i marks (item_line n (l ∷ ls) hints)).0)
+      (λ i. (kept_stays (formula_variables kind.Step b) (formula_clauses kind.Step b) room.capacity room.cost s.progress i marks (item_line n (l ∷ ls) hints)).0)
       r a.2 inv
   accepted_keeps s (strike n) r a inv =
       let b = s.board in
       item_keeps s a.0 (λ z. judge_strike (formula_terms room (kind_at z) b) s.progress n) (strike_at s.stage a.0 a.1)
-      (λ i. (kept_stays (formula_variables kind.Base b) (formula_clauses kind.Base b) room.capacity room.cost s.progress i 0 (item-strike n)).0)
-      (λ i. (kept_stays (formula_variables kind.Step b) (formula_clauses kind.Step b) room.capacity room.cost s.progress i 0 (item-strike n)).0)
+      (λ i. (kept_stays (formula_variables kind.Base b) (formula_clauses kind.Base b) room.capacity room.cost s.progress i 0 (item_strike n)).0)
+      (λ i. (kept_stays (formula_variables kind.Step b) (formula_clauses kind.Step b) room.capacity room.cost s.progress i 0 (item_strike n)).0)
       r a.2 inv
   accepted_keeps s pass r a inv =
       let at = pass_at s.stage a.0 a.1 in

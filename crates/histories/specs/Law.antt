@@ -10,7 +10,7 @@ use Rattle.formulas.specs.Formulas.{base, step, base_variables, step_variables}
 use Rattle.solutions.specs.Runs.{Run, Frame, BadWithin}
 use Rattle.induction.specs.Claims.{FirstBadAt}
 use Rattle.runs.specs.Faults.{Fault, Faultless}
-use Rattle.refutations.specs.Refuting.{Item, line as item-line, strike as item-strike, Refuting}
+use Rattle.refutations.specs.Refuting.{Item, line as item_line, strike as item_strike, Refuting}
 use Rattle.acceptance.specs.Judged.{NumbersFit, CostsFit}
 use Rattle.stages.specs.declared.Stage.{Stage}
 use Rattle.stages.specs.declared.Stage.TheVariants as stage
@@ -103,8 +103,8 @@ ShowsBad b bytes k w =
 
 -- A refuting list as calls, with so many marks lent at each line.
 abbrev pub offer : ℕ → Item → Call
-offer marks (item-line n ls hints) = line marks n ls hints
-offer marks (item-strike n) = strike n
+offer marks (item_line n ls hints) = line marks n ls hints
+offer marks (item_strike n) = strike n
 
 abbrev pub offered : ℕ → List Item → List Call
 offered marks [] = []

@@ -1,6 +1,6 @@
 ghost use Rattle.std.specs.Prelude.{◌≡◌};
 ghost use Rattle.shelf.specs.Lines.{find};
-ghost use Rattle.refutingtests.specs.Lone.{lines as lines_of, cost as costOf};
+ghost use Rattle.refutingtests.specs.Lone.{lines as lines_of, cost as cost_of};
 ghost use Rattle.std.proofs.Common.{refl, ap, ◌∙◌};
 ghost use Rattle.refutingtests.specs.Laws.{lone_costs, lone_rising};
 
@@ -46,7 +46,7 @@ impl Shelf for Lone {
 
     ghost capacity = { λ _. 1 };
 
-    ghost cost = { costOf };
+    ghost cost = { cost_of };
 
     ghost costs_something = { lone_costs };
 

@@ -1,7 +1,7 @@
 ghost use Rattle.std.specs.Prelude.{◌≡◌, length, IfOk, string_bytes};
 ghost use Rattle.gates.specs.Gates.{is_register, rank};
 ghost use Rattle.boards.specs.Sheets.{sheet};
-ghost use Rattle.runs.specs.Text.{letter as letterOf, board_line, frame_line, verdict_line};
+ghost use Rattle.runs.specs.Text.{letter as letter_of, board_line, frame_line, verdict_line};
 
 use crate::trace::Verdict;
 use boards::Board;
@@ -10,7 +10,7 @@ use values::Value;
 
 /// The letter of a value: `U`, `0` or `1`.
 pub fn letter(value: Value) -> char
-    ensures { result ≡ letterOf value }
+    ensures { result ≡ letter_of value }
 {
     match value {
         Value::Undefined => 'U',

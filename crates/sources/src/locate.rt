@@ -1,7 +1,7 @@
 ghost use Rattle.std.specs.Prelude.{◌≡◌, ◌+◌, ◌*◌, ◌<◌, ◌≤◌, length, Some};
 ghost use Rattle.std.specs.Option.{option_map};
 ghost use Rattle.std.specs.List.{slice_get};
-ghost use Rattle.clauses.specs.Clauses.{numbered as numberedOf};
+ghost use Rattle.clauses.specs.Clauses.{numbered as numbered_of};
 ghost use Rattle.formulas.specs.Formulas.{base, step, pair_clauses, step_pairs};
 ghost use Rattle.sources.specs.Rows.{registers_before};
 ghost use Rattle.sources.specs.Places.{clause_of, Ready, PairAt, step_tail, first_difference};
@@ -135,7 +135,7 @@ impl Formula {
 
     /// The clause of a number, from 1, if there is one.
     pub(crate) fn numbered(&self, number: u32) -> Option<Shape>
-        ensures is { option_map (clause_of (length (gates_of self.now)) (property_of self.now)) result ≡ numberedOf (clauses_of self.now) number }
+        ensures is { option_map (clause_of (length (gates_of self.now)) (property_of self.now)) result ≡ numbered_of (clauses_of self.now) number }
         ensures ready { Ready result }
     {
         if number == 0 {

@@ -1,14 +1,14 @@
 ghost use Rattle.std.specs.Prelude.{◌≡◌, ◌≤◌, length};
 ghost use Rattle.sources.specs.Rows.{Row, before};
 ghost use Rattle.formulas.specs.Drives.{drive};
-ghost use Rattle.sources.specs.Weights.{weight as weightOf};
+ghost use Rattle.sources.specs.Weights.{weight as weight_of};
 
 use gates::Gate;
 use wireclauses::sides::plain_size;
 
 /// What a wire adds to a row: to that of the registers, or to that of the other wires' clauses.
 fn weight(gate: Gate, registers: bool) -> u16
-    ensures is { result ≡ weightOf registers (drive gate) }
+    ensures is { result ≡ weight_of registers (drive gate) }
     ensures small { result ≤ 13 }
 {
     if !registers {

@@ -1,6 +1,6 @@
 ghost use Rattle.std.specs.Prelude.{◌≡◌, ◌+◌, ◌<◌, ◌≤◌, false, [], length, take, IfOk, vec_len};
 ghost use Rattle.std.specs.List.{remove};
-ghost use Rattle.shelf.specs.Lines.{insert as insertIn};
+ghost use Rattle.shelf.specs.Lines.{insert as insert_in};
 ghost use Rattle.store.specs.Rows.{lengths, place, stands, literals_in};
 ghost use Rattle.store.specs.Stores.{lines_of, line_room, literal_room, Roomy};
 
@@ -56,7 +56,7 @@ impl Store {
         requires free { stands number at (lines_of self.old) ≡ false }
         requires lines { length (lines_of self.old) < line_room self.old }
         requires literals { literals_in (lines_of self.old) + length literals.now ≤ literal_room self.old }
-        ensures lines { lines_of self.new ≡ insertIn number literals.now (lines_of self.old) }
+        ensures lines { lines_of self.new ≡ insert_in number literals.now (lines_of self.old) }
         ensures room { Roomy self.old self.new }
     {
         let start = self.start(at);

@@ -1,6 +1,6 @@
 ghost use Rattle.std.specs.Prelude.{◌≡◌};
 ghost use Rattle.clauses.specs.Clauses.{length_of, clause_literal};
-ghost use Rattle.shelf.specs.Lines.{find as findIn};
+ghost use Rattle.shelf.specs.Lines.{find as find_in};
 ghost use Rattle.store.specs.Rows.{place, stands, spot};
 ghost use Rattle.store.specs.Stores.{lines_of, Untouched};
 
@@ -54,7 +54,7 @@ impl Store {
 
     /// How many literals the number's line has, if there is one.
     pub fn length(&mut self, number: u32) -> Option<usize>
-        ensures answer { result ≡ length_of (findIn (lines_of self.old) number) }
+        ensures answer { result ≡ length_of (find_in (lines_of self.old) number) }
         ensures same { Untouched self.old self.new }
     {
         let at = self.find(number)?;
@@ -63,7 +63,7 @@ impl Store {
 
     /// The literal at a place of the number's line, if there is one.
     pub fn literal(&mut self, number: u32, at: usize) -> Option<i32>
-        ensures answer { result ≡ clause_literal (findIn (lines_of self.old) number) at }
+        ensures answer { result ≡ clause_literal (find_in (lines_of self.old) number) at }
         ensures same { Untouched self.old self.new }
     {
         let line = self.find(number)?;

@@ -4,28 +4,28 @@ use Rattle.values.specs.Sides.{Rail, rail0, rail1, Right, fixed, one, either, bo
 use Rattle.clauses.specs.Clauses.{Clause}
 use Rattle.formulas.specs.Drives.{Drive, input, register, settled}
 use Rattle.formulas.specs.Formulas.{equation}
-use Rattle.wireclauses.specs.declared.sides.Rail as code-rail
-use Rattle.wireclauses.specs.declared.sides.Right as code-right
-use Rattle.wireclauses.specs.declared.sides.Drive as code-drive
+use Rattle.wireclauses.specs.declared.sides.Rail as code_rail
+use Rattle.wireclauses.specs.declared.sides.Right as code_right
+use Rattle.wireclauses.specs.declared.sides.Drive as code_drive
 use Rattle.wireclauses.specs.declared.sides.Rail.TheVariants.{Rail0, Rail1}
 use Rattle.wireclauses.specs.declared.sides.Right.TheVariants.{Fixed, Same, Either, Both, TwoBoths}
 use Rattle.wireclauses.specs.declared.sides.Drive.TheVariants.{Input, Register, Settled}
 
-abbrev pub rail_of : code-rail.Rail → Rail ℕ
+abbrev pub rail_of : code_rail.Rail → Rail ℕ
 rail_of (Rail0 w) = rail0 w
 rail_of (Rail1 w) = rail1 w
 
-abbrev pub right_of : code-right.Right → Right ℕ
+abbrev pub right_of : code_right.Right → Right ℕ
 right_of (Fixed t) = fixed t
 right_of (Same a) = one (rail_of a)
 right_of (Either a b) = either (rail_of a) (rail_of b)
 right_of (Both a b) = both (rail_of a) (rail_of b)
 right_of (TwoBoths a b c e) = two_boths (rail_of a) (rail_of b) (rail_of c) (rail_of e)
 
-abbrev pub sides_of : code-right.Right → code-right.Right → Sides ℕ
+abbrev pub sides_of : code_right.Right → code_right.Right → Sides ℕ
 sides_of r s = record { side0 = right_of r; side1 = right_of s }
 
-abbrev pub drive_of : code-drive.Drive → Drive
+abbrev pub drive_of : code_drive.Drive → Drive
 drive_of Input = input
 drive_of (Register y) = register y
 drive_of (Settled r s) = settled (sides_of r s)

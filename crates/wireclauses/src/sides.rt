@@ -1,5 +1,5 @@
 ghost use Rattle.std.specs.Prelude.{◌≡◌, ◌≤◌};
-ghost use Rattle.formulas.specs.Drives.{drive as driveOf};
+ghost use Rattle.formulas.specs.Drives.{drive as spec_drive};
 ghost use Rattle.wireclauses.specs.Sides.{right_of, drive_of};
 ghost use Rattle.wireclauses.specs.Sizes.{right_size, plain_size, register_size};
 
@@ -32,7 +32,7 @@ pub enum Drive {
 
 /// What drives a wire with this gate.
 pub(crate) fn gate_drive(gate: Gate) -> Drive
-    ensures { drive_of result ≡ driveOf gate }
+    ensures { drive_of result ≡ spec_drive gate }
 {
     match gate {
         Gate::Input => Drive::Input,
@@ -85,7 +85,7 @@ pub(crate) fn right_size(right: Right) -> usize
 
 /// How many clauses a wire has in a frame; 0 for a register, whose clauses differ from frame to frame.
 pub fn plain_size(gate: Gate) -> u16
-    ensures is { result ≡ plain_size (driveOf gate) }
+    ensures is { result ≡ plain_size (spec_drive gate) }
     ensures small { result ≤ 13 }
 {
     match gate {

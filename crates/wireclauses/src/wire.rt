@@ -1,9 +1,9 @@
 ghost use Rattle.std.specs.Prelude.{◌≡◌, ◌+◌, ◌*◌, ◌≤◌, ◌∷◌};
 ghost use Rattle.std.specs.Option.{option_map};
 ghost use Rattle.std.specs.List.{slice_get};
-ghost use Rattle.values.specs.Sides.{rail0 as railA};
-ghost use Rattle.formulas.specs.Drives.{drive as driveOf};
-ghost use Rattle.formulas.specs.Formulas.{rail_var, equation as equationOf, held as held_of, apart, driven as drivenOf};
+ghost use Rattle.values.specs.Sides.{rail0 as rail_a};
+ghost use Rattle.formulas.specs.Drives.{drive as spec_drive};
+ghost use Rattle.formulas.specs.Formulas.{rail_var, equation as equation_of, held as held_of, apart, driven as driven_of};
 ghost use Rattle.wireclauses.specs.Literals.{few_of};
 ghost use Rattle.wireclauses.specs.Sides.{rail_of, right_of, drive_of, fixed_clauses, same_clauses, either_clauses, both_clauses, two_boths_clauses};
 
@@ -15,7 +15,7 @@ use gates::Gate;
 impl Frame {
     /// The variable of a wire's rail 0; that of its rail 1 is the next.
     pub fn rail0(self, wire: u8) -> u16
-        ensures is { result ≡ rail_var self.wires self.before (railA wire) }
+        ensures is { result ≡ rail_var self.wires self.before (rail_a wire) }
         ensures small { result ≤ 5000 }
     {
         (2 * (self.wires * self.before) + 2 * wire as usize) as u16
@@ -95,7 +95,7 @@ fn two_boths(a: u16, b: u16, c: u16, e: u16, f: u16, j: usize) -> Option<Few>
 
 /// The clause at place j of the equation of the variable a with a right side.
 fn equation(frame: Frame, a: u16, right: Right, j: usize) -> Option<Few>
-    ensures { option_map few_of result ≡ slice_get (equationOf (rail_var frame.wires frame.before) a (right_of right)) j }
+    ensures { option_map few_of result ≡ slice_get (equation_of (rail_var frame.wires frame.before) a (right_of right)) j }
 {
     match right {
         Right::Fixed(t) => fixed(a, t, j),
@@ -135,7 +135,7 @@ fn held(starts: bool, frame: Frame, w: u8, y: u8, j: usize) -> Option<Few>
 
 /// The clause at place j of what drives wire w.
 fn driven(starts: bool, frame: Frame, w: u8, by: Drive, j: usize) -> Option<Few>
-    ensures { option_map few_of result ≡ slice_get (drivenOf starts frame.wires frame.before w (drive_of by)) j }
+    ensures { option_map few_of result ≡ slice_get (driven_of starts frame.wires frame.before w (drive_of by)) j }
 {
     let a = frame.rail0(w);
     match by {
@@ -166,7 +166,7 @@ fn driven(starts: bool, frame: Frame, w: u8, by: Drive, j: usize) -> Option<Few>
 
 /// The clause at place j of the clauses of wire w in a frame, if there is one; `starts` says whether this is the base.
 pub fn wire_clause(starts: bool, frame: Frame, w: u8, gate: Gate, j: usize) -> Option<Few>
-    ensures { option_map few_of result ≡ slice_get (apart frame.wires frame.before w ∷ drivenOf starts frame.wires frame.before w (driveOf gate)) j }
+    ensures { option_map few_of result ≡ slice_get (apart frame.wires frame.before w ∷ driven_of starts frame.wires frame.before w (spec_drive gate)) j }
 {
     if j > 0 {
         return driven(starts, frame, w, gate_drive(gate), j - 1);
