@@ -1,7 +1,7 @@
 #!/usr/bin/env python3
 """Compares the files that the built program boardwrite writes with those of tools/reference_formulas.py, byte for byte.
 
-    rt check boardwrite && tools/compare_formulas.py [SEED]
+    tools/build.sh boardwrite && tools/compare_formulas.py [SEED]
 
 The boards: one of each gate at every depth, the edges of the number of wires, and boards drawn at random from the seed (1
 where none is given). It is outside the gate.
@@ -15,7 +15,7 @@ import tempfile
 sys.path.insert(0, str(pathlib.Path(__file__).parent))
 import reference_formulas as reference
 
-PROGRAM = pathlib.Path(__file__).resolve().parent.parent / "target" / "bin" / "boardwrite"
+PROGRAM = pathlib.Path(__file__).resolve().parent.parent / "crates" / "boardwrite" / "out" / "boardwrite"
 
 
 def gate_file(gates, p, d):
