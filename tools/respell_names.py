@@ -11,7 +11,7 @@ import re
 import sys
 
 ID = r"[^\s(){}\[\],;.:⌜⌝`\"«»|=]+"
-DECLARED = re.compile(r"(?m)^[ ]*(?:(?:abbrev|unfoldable|pub|opaque|record|data) )*(" + ID + r")(?=\s*:(?!:))")
+DECLARED = re.compile(r"(?m)^[ ]*(?:(?:abbrev|unfoldable|pub|opaque|record|data) )*(" + ID + r")(?=\s*:(?!:))|^[ ]*(?:pub )?(?:record|data) (" + ID + r")(?=\s)")
 # Names that would fall together with another by the rule alone, and two that hold an operator.
 BY_HAND = {
     "literalOf": "clause_literal",
@@ -48,7 +48,7 @@ def names(texts):
     for path, text in texts.items():
         if path.endswith(".antt"):
             goals |= set(GOALS.findall(text))
-            found |= {m[1] for m in DECLARED.finditer(text)}
+            found |= {m[1] or m[2] for m in DECLARED.finditer(text)}
     return {n: spelled(n) for n in found - goals if spelled(n) != n}
 
 

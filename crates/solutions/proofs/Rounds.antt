@@ -8,7 +8,7 @@ use Rattle.values.specs.Ranks.{total, total_le, rises}
 use Rattle.gates.specs.declared.gate.Gate.{Gate}
 use Rattle.solutions.specs.Solutions.{gate_at, reads, Solves, Least}
 use Rattle.solutions.specs.Rounds.{round, rounds, same_row, rounds_from, most_rounds, frame_rounds, frame_row}
-use Rattle.solutions.specs.Claims.{Named, Rounds-end}
+use Rattle.solutions.specs.Claims.{Named, RoundsEnd}
 use Rattle.solutions.proofs.Firsts.{find_first}
 use Rattle.gates.proofs.Names.{wires_below}
 use Rattle.solutions.proofs.Wanted.{wanted_rises}
@@ -171,7 +171,7 @@ module _ {A : Type 0} (K : Kind A) (L : Lawful K) (gs : List Gate) (named : Name
     lowest = rounds_below k;
   }
 
-  pub rounds_end : Rounds-end K gs given
+  pub rounds_end : RoundsEnd K gs given
   rounds_end =
       ⊎_elim
       (λ r. record {

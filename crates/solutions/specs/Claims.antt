@@ -17,7 +17,7 @@ abbrev pub Named : List Gate → Type 0
 Named gs = named (length gs) gs ≡ true
 
 -- The rounds end: the first that changes nothing is the last, it comes in time, and what it leaves is the least solution.
-pub record Rounds-end {A : Type 0} (K : Kind A) (gs : List Gate) (given : ℕ → A) : Type 0 where
+pub record RoundsEnd {A : Type 0} (K : Kind A) (gs : List Gate) (given : ℕ → A) : Type 0 where
   -- how many rounds change something
   pub changing : ℕ
   pub count : frame_rounds K gs given ≡ suc changing
@@ -33,7 +33,7 @@ LeastUnique {A} K = (gs : List Gate) (given f g : ℕ → A) → Least K gs give
 
 -- Every frame of a kind comes to its end.
 abbrev pub FramesEnd : {A : Type 0} → Kind A → Type 0
-FramesEnd {A} K = (gs : List Gate) → Named gs → (given : ℕ → A) → Rounds-end K gs given
+FramesEnd {A} K = (gs : List Gate) → Named gs → (given : ℕ → A) → RoundsEnd K gs given
 
 -- A map between kinds that keeps the undefined value, 0, 1 and the gates.
 pub record Keeps {A B : Type 0} (K : Kind A) (J : Kind B) (h : A → B) : Type 0 where

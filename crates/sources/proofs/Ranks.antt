@@ -29,11 +29,11 @@ take_past [] (suc w) h = refl
 take_past (x ∷ xs) zero h = absurd (omega arith)
 take_past (x ∷ xs) (suc w) h = ap (λ ys. x ∷ ys) (take_past xs w (omega arith))
 
-get_d_beyond : {X : Type 0} (xs : List X) (w : ℕ) (d : X) → length xs ≤ w → get_or xs w d ≡ d
-get_d_beyond [] zero d h = refl
-get_d_beyond [] (suc w) d h = refl
-get_d_beyond (x ∷ xs) zero d h = absurd (omega arith)
-get_d_beyond (x ∷ xs) (suc w) d h = get_d_beyond xs w d (omega arith)
+get_or_beyond : {X : Type 0} (xs : List X) (w : ℕ) (d : X) → length xs ≤ w → get_or xs w d ≡ d
+get_or_beyond [] zero d h = refl
+get_or_beyond [] (suc w) d h = refl
+get_or_beyond (x ∷ xs) zero d h = absurd (omega arith)
+get_or_beyond (x ∷ xs) (suc w) d h = get_or_beyond xs w d (omega arith)
 
 -- past the last wire nothing is added
 pub rank_more : (gs : List Gate) (w : ℕ) → registers_before gs (suc w) ≡ registers_before gs w + one_if (driver gs w)
@@ -41,7 +41,7 @@ rank_more gs w =
     ⊎_elim
     (λ l. ap (registers_before gs) (sym (add-one w)) ∙ (count_turn is_register gs w l ∙ ap (λ x. registers_before gs w + x) (ones (get_or gs w Input))))
     (λ l. let a : registers_before gs (suc w) ≡ registers_before gs w = ap (count_by is_register) (take_past gs (suc w) (omega arith) ∙ sym (take_past gs w l)) in
-    let b : one_if (driver gs w) ≡ 0 = ap (λ g. one_if (drive g)) (get_d_beyond gs w Input l) in
+    let b : one_if (driver gs w) ≡ 0 = ap (λ g. one_if (drive g)) (get_or_beyond gs w Input l) in
     omega (arith, a, b))
     (cases_lt w (length gs))
 

@@ -1,5 +1,5 @@
 ghost use Rattle.values.specs.Single.{single};
-ghost use Rattle.std.proofs.Common.{rules};
+ghost use Rattle.values.specs.Singles.{single_lawful};
 
 use crate::kind::ValueKind;
 
@@ -16,7 +16,7 @@ impl ValueKind for Value {
 
     ghost meaning = { single };
 
-    ghost lawful = { Prim.search rules };
+    ghost lawful = { single_lawful };
 
     fn top_rank() -> usize {
         Self::HEIGHT
