@@ -7,7 +7,7 @@ ghost use Rattle.std.specs.Option.{option_map};
 ghost use Rattle.refusals.specs.declared.Refusal.TheVariants.{Buffer};
 ghost use Rattle.clauses.specs.Clauses.{length_of, clause_literal, variable as variable_of};
 ghost use Rattle.hints.specs.Bytes.{mark_of, marks_of, signed, cleared};
-ghost use Rattle.hints.specs.Hints.{value as value_of, unless_true, falsified, assign, names as names_of, fits as fits_of, all_fit, weighed, joined, reading as reading_of, by_hints, screened};
+ghost use Rattle.hints.specs.Hints.{value as value_of, unless_true, falsified, assign, names as names_of, fits as fits_of, all_fit as all_fit_of, weighed, joined, reading as reading_of, by_hints, screened};
 ghost use Rattle.hints.specs.declared.Reading.TheVariants.{Conflict as ReadingConflict};
 
 use clauses::ClauseSource;
@@ -155,7 +155,7 @@ fn fits(variables: usize, literal: i32) -> bool
 }
 
 fn all_fit(variables: usize, literals: &[i32]) -> bool
-    ensures { result ≡ all_fit variables literals.now }
+    ensures { result ≡ all_fit_of variables literals.now }
 {
     for literal in literals {
         if !fits(variables, *literal) {
@@ -179,7 +179,7 @@ fn make_false(marks: &mut [u8], literal: i32) -> bool
 
 /// Makes each literal false, and says whether that can be done: not where two are opposite.
 fn falsify(marks: &mut [u8], literals: &[i32]) -> bool
-    requires { all_fit (length marks.old) literals.now ≡ true }
+    requires { all_fit_of (length marks.old) literals.now ≡ true }
     ensures { falsified (marks_of marks.old) literals.now ≡ (if result then Some (marks_of marks.new) else None) }
 {
     for literal in literals {

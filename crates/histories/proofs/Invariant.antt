@@ -13,7 +13,7 @@ use Rattle.stages.specs.declared.Stage.{Stage}
 use Rattle.stages.specs.declared.Stage.TheVariants as stage
 use Rattle.histories.specs.Cases.{State, Room, kind_at, formula_terms, terms_at, Call, add, close, line, strike, pass, show, Outcome, judge}
 use Rattle.histories.proofs.Judged.{judged, TakesCall, ItemTaken}
-use Rattle.histories.proofs.Stages.{Goes_on, add_at, close_at, line_at, empty_at, strike_at, pass_at, show_at}
+use Rattle.histories.proofs.Stages.{GoesOn, add_at, close_at, line_at, empty_at, strike_at, pass_at, show_at}
 
 module _ (room : Room) where
   -- how far the refutation of a formula of the board has come
@@ -35,7 +35,7 @@ module _ (room : Room) where
   Inv s = InvAt s.stage s.board s.progress
 
   -- a line with literals, or a strike
-  item_keeps : (s : State) (t : Stage) → (j : Stage → Judged) → Goes_on s.stage t
+  item_keeps : (s : State) (t : Stage) → (j : Stage → Judged) → GoesOn s.stage t
       → (KeptAt kind.Base s.board s.progress → KeptAt kind.Base s.board (j stage.Base).1)
       → (KeptAt kind.Step s.board s.progress → KeptAt kind.Step s.board (j stage.Step).1)
       → (r : Outcome) → ItemTaken s t (j s.stage) r → Inv s → Inv r.1

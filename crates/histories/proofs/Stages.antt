@@ -29,10 +29,10 @@ close_at Safe t e = never t e
 close_at Shown t e = never t e
 
 -- a line with literals, or a strike: the base is being refuted, or the step
-abbrev pub Goes_on : Stage → Stage → Type 0
-Goes_on s t = ((s ≡ Base) × (t ≡ Base)) ⊎ ((s ≡ Step) × (t ≡ Step))
+abbrev pub GoesOn : Stage → Stage → Type 0
+GoesOn s t = ((s ≡ Base) × (t ≡ Base)) ⊎ ((s ≡ Step) × (t ≡ Step))
 
-pub line_at : (s t : Stage) → after s Line ≡ Some t → Goes_on s t
+pub line_at : (s t : Stage) → after s Line ≡ Some t → GoesOn s t
 line_at Draw t e = never t e
 line_at Base t e = inl (refl, led Base t e)
 line_at BaseDone t e = never t e
@@ -40,7 +40,7 @@ line_at Step t e = inr (refl, led Step t e)
 line_at Safe t e = never t e
 line_at Shown t e = never t e
 
-pub strike_at : (s t : Stage) → after s Strike ≡ Some t → Goes_on s t
+pub strike_at : (s t : Stage) → after s Strike ≡ Some t → GoesOn s t
 strike_at Draw t e = never t e
 strike_at Base t e = inl (refl, led Base t e)
 strike_at BaseDone t e = never t e

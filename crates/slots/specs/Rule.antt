@@ -1,5 +1,5 @@
 -- What a line costs where there are slots, and how many slots there are.
-use Rattle.std.specs.Prelude.{ℕ, ◌/◌, Bool, cond, leb, length, Some, None, nat_le}
+use Rattle.std.specs.Prelude.{ℕ, ◌/◌, Bool, cond, length, Some, None, nat_le}
 use Rattle.std.specs.List.{list_all}
 use Rattle.shelf.specs.Lines.{Lines, Costs}
 use Rattle.store.specs.Words.{counted}
@@ -14,4 +14,4 @@ slot_cost n = cond (nat_le n 32) (Some 1) None
 
 -- Every line fits a slot.
 abbrev pub short : Lines → Bool
-short xs = list_all (λ x. leb (length x.1) 32) xs
+short xs = list_all (λ x. nat_le (length x.1) 32) xs
