@@ -3,7 +3,7 @@
 
 usage: python3 tools/respell_imports.py     at the top
 
-It was run once, after tools/respell_names.py. A local name is in snake case, as all else that is no fact or type. The recursive "holds of each
+It was run after tools/respell_names.py. A local name is in snake case, as all else that is no fact or type. The recursive "holds of each
 element", imported under the library's plain word All, is AllOf: the gate refuses another definition under such a word.
 """
 import os

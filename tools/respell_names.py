@@ -3,8 +3,9 @@
 
 usage: python3 tools/respell_names.py [--look]     at the top; --look lists the names and what each falls together with, and writes nothing
 
-It was run once, after the kit's own script for older repositories. A name is one that specs/ or proofs/ declares with its type; it is turned in
-every .antt file, and in the ghost text of every .rt file (not in strings). Names of Rust functions, of goals and of files stay.
+It was run after the kit's own script for older repositories, and once more when it had learned of records and data with parameters. A name
+is one that specs/ or proofs/ declares with its type; it is turned in every .antt file, and in the ghost text of every .rt file (not in
+strings). Names of Rust functions, of goals and of files stay.
 """
 import os
 import re
