@@ -1,12 +1,31 @@
 -- One round of a frame, wire by wire.
-use Rattle.std.proofs.Common.{◌≡◌, ℕ, ◌+◌, ◌<◌, ◌≤◌, Bool, not, ◌||◌, List, length, get_or, set, sym, ap, ◌∙◌, arith}
+use Rattle.std.proofs.Common.{◌≡◌, ℕ, ◌+◌, ◌<◌, ◌≤◌, Bool, not, cond, ◌||◌, List, length, get_or, set, drop, sym, ap, ◌∙◌, add-zero, arith}
 use Rattle.std.proofs.lemmas.Nat.{mul-le}
+use Rattle.std.proofs.lemmas.List.{drop-drop, get_or-drop}
 use Rattle.values.specs.Kinds.{Kind, Lawful}
 use Rattle.gates.specs.declared.gate.Gate.{Gate}
-use Rattle.solutions.specs.Solutions.{gate_at, reads, wanted}
+use Rattle.gates.specs.Gates.{is_input, rank}
+use Rattle.gates.proofs.Counting.{count_turn}
+use Rattle.solutions.specs.Solutions.{gate_at, reads, wanted, supplied, given as given_by}
 use Rattle.solutions.specs.Rounds.{round, same_row, most_rounds}
 use Rattle.solutions.proofs.OneRound.{want, round_more}
 use Rattle.solutions.proofs.Rows.{changed_more}
+
+-- The inputs are taken one after the other: what is left of them begins with the input of the next wire that is one.
+module _ {A : Type 0} (K : Kind A) (gs : List Gate) (inputs : List A) (before : ℕ → A) (w : ℕ) (left : List A) (is : left ≡ drop (rank is_input gs w) inputs)
+    (gate : Gate) (here : gate ≡ gate_at gs w) where
+  pub turn_given : (x : A) → x ≡ supplied K gate (reads K left 0) before → x ≡ given_by K gs inputs before w
+  turn_given x e =
+      let r = rank is_input gs w in
+      let next : reads K left 0 ≡ reads K inputs r =
+      ap (λ ys. reads K ys 0) is ∙ get_or-drop r inputs 0 K.undefined ∙ ap (reads K inputs) (add-zero r) in
+      e ∙ ap (λ y. supplied K gate y before) next ∙ ap (λ y. supplied K y (reads K inputs r) before) here
+
+  pub turn_left : (after : List A) → w < length gs → after ≡ drop (cond (is_input gate) 1 0) left → after ≡ drop (rank is_input gs (w + 1)) inputs
+  turn_left after h e =
+      let step = λ (y : Gate). cond {A = ℕ} (is_input y) 1 0 in
+      e ∙ ap (drop (step gate)) is ∙ drop-drop (step gate) (rank is_input gs w) inputs
+      ∙ ap (λ y. drop (rank is_input gs w + step y) inputs) here ∙ ap (λ n. drop n inputs) (sym (count_turn is_input gs w h))
 
 module _ {A : Type 0} (K : Kind A) (L : Lawful K) (gs : List Gate) (given : ℕ → A) (xs : List A) (w : ℕ) (row : List A)
     (is : row ≡ round K gs given w xs) where

@@ -1,5 +1,7 @@
-ghost use Rattle.std.specs.Prelude.{◌≡◌, ◌≤◌, not, length, replicate, IfOk, None};
+ghost use Rattle.std.specs.Prelude.{◌≡◌, ◌≤◌, not, cond, length, drop, replicate, IfOk, None};
 ghost use Rattle.std.specs.Option.{option_map};
+ghost use Rattle.std.specs.Slice.Iter.{iter_rest};
+ghost use Rattle.gates.specs.Gates.{is_input};
 ghost use Rattle.boards.specs.Sheets.{sheet};
 ghost use Rattle.solutions.specs.Solutions.{reads, wanted as wanted_of, supplied, frame_before, Least};
 ghost use Rattle.solutions.specs.Rounds.{round, same_row, most_rounds, frame_rounds, frame_row};
@@ -8,6 +10,7 @@ ghost use Rattle.frames.specs.Frames.{frame_given, enough, frame_answer, row_aft
 use boards::Board;
 use gates::Gate;
 use refusals::Refusal;
+use std::slice::Iter;
 use values::ValueKind;
 
 /// The value of a wire in a row, undefined past the row's end.
@@ -72,12 +75,13 @@ impl<V: ValueKind> Given<'_, V> {
         self.before.map_or(V::zero(), |before| at(before, wire))
     }
 
-    /// What a wire is given: an input its value of the row of inputs, a register its source's value in the frame before.
-    fn supply(&self, gate: Gate, rank: usize) -> V
-        ensures { result ≡ supplied V.ValueKind.meaning gate (reads V.ValueKind.meaning self.now.inputs.now rank) (frame_before V.ValueKind.meaning (before_of self.now)) }
+    /// What a wire is given: an input the next of the inputs, a register its source's value in the frame before.
+    fn supply(&self, gate: Gate, inputs: &mut Iter<'_, V>) -> V
+        ensures given { result ≡ supplied V.ValueKind.meaning gate (reads V.ValueKind.meaning (iter_rest inputs.old) 0) (frame_before V.ValueKind.meaning (before_of self.now)) }
+        ensures left { iter_rest inputs.new ≡ drop (cond (is_input gate) 1 0) (iter_rest inputs.old) }
     {
         match gate {
-            Gate::Input => at(self.inputs, rank),
+            Gate::Input => inputs.next().copied().unwrap_or(V::undefined()),
             Gate::Register(y) => self.at_before(y as usize),
             _ => V::undefined(),
         }
@@ -90,15 +94,12 @@ impl<V: ValueKind> Given<'_, V> {
         ensures after { row.new ≡ round V.ValueKind.meaning (gates_of self.now) (given_of V.ValueKind.meaning self.now) (length (gates_of self.now)) row.old }
     {
         let mut changed = false;
-        let mut rank = 0;
+        let mut inputs = self.inputs.iter();
         for (wire, gate) in self.board.gates().iter().enumerate() {
             // By index: a wire's value is read off the whole row, and written to one place of it.
-            let value = wanted(*gate, self.supply(*gate, rank), row);
+            let value = wanted(*gate, self.supply(*gate, &mut inputs), row);
             changed |= row[wire] != value;
             row[wire] = value;
-            if gate.is_input() {
-                rank += 1;
-            }
         }
         changed
     }

@@ -1,4 +1,5 @@
-use Rattle.std.proofs.Common.{◌≡◌, ◌≤◌, not}
+use Rattle.std.proofs.Common.{◌≡◌, not, drop}
+use Rattle.std.specs.Slice.Iter.{iter_rest}
 use Rattle.gates.specs.Gates.{is_input, rank}
 use Rattle.solutions.specs.Rounds.{round, same_row}
 use Rattle.frames.specs.Given.{gates_of, given_of}
@@ -9,4 +10,4 @@ invariant-loop-wire g l =
     let K = g.V.ValueKind.meaning in
     let gs = gates_of l.self in
     let swept = round K gs (given_of K l.self) l.wire l.initial.row in
-    (l.rank ≡ rank is_input gs l.wire) × (l.rank ≤ l.wire) × (l.row ≡ swept) × (same_row K l.initial.row swept ≡ not l.changed)
+    (iter_rest l.inputs ≡ drop (rank is_input gs l.wire) l.self.inputs.now) × (l.row ≡ swept) × (same_row K l.initial.row swept ≡ not l.changed)
