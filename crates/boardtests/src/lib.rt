@@ -203,11 +203,19 @@ mod tests {
         // Lane 0 has both inputs at 1, lane 1 has 1 and 0; lane 2 is handed in with both rails up.
         let inputs = [Lanes::new(0b100, 0b111), Lanes::new(0b110, 0b101)];
         let mut row = [Lanes::new(0, 0); 9];
-        find_frame(&board, &inputs, no_frame(), &mut row)?;
+        find_frame(&board, &inputs, None, &mut row)?;
         assert_eq!(rt; row[3].lane(0), Value::Undefined);
         assert_eq!(rt; row[3].lane(1), Value::One);
         assert_eq!(rt; row[0].lane(2), Value::Undefined);
         assert_eq!(rt; row[8].lane(63), Value::One);
+        Ok(())
+    }
+
+    #[test]
+    fn values_are_written_as_letters(rt: HostRuntime) -> Result<(), Fail> {
+        let [undefined, zero, one] = [Value::Undefined, Value::Zero, Value::One];
+        let text = format!(in rt.alloc(); "{undefined}{zero}{one}")?;
+        assert_eq!(rt; text.as_str(), "U01");
         Ok(())
     }
 }
