@@ -57,6 +57,7 @@ impl Drawing {
     }
 
     /// Closes the drawing into a board, or hands it back.
+    // The property wire and the depth are given apart: whoever closes has two numbers, and only a file has them together.
     pub fn close(self, property: u8, depth: u8) -> Result<Board, Unclosed>
         ensures { MatchResult result
             (λ b. (closing (sheet_of (drawn self) property depth) ≡ None) × (sheet b ≡ sheet_of (drawn self) property depth))
