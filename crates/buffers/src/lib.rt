@@ -8,9 +8,8 @@ ghost use Rattle.buffers.specs.Buffers.{written_at};
 
 mod sink;
 
-pub use sink::{Length, Sink, Writer};
-
 use refusals::Refusal;
+pub use sink::{Length, Sink, Writer};
 
 /// Writes the bytes at a place of the buffer, and answers the place behind them. Where they do not fit, they are refused, and
 /// nothing is written.

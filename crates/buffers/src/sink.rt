@@ -42,6 +42,7 @@ impl Sink for Length {
 
 /// A lent buffer, and the place where the next bytes go. Bytes that do not fit are left out, so whoever writes a text asks for its
 /// length first.
+#[derive(Drop)]
 pub struct Writer<'a> {
     pub buffer: &'a mut [u8],
     pub at: usize,
