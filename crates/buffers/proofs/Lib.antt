@@ -1,4 +1,2 @@
 pub mod Pieces
 pub mod Writing
-pub mod Rows
-pub mod Sunk

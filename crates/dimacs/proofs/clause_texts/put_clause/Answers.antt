@@ -1,6 +1,6 @@
 use Rattle.std.proofs.Common.{◌+◌, pos, sym, ◌∙◌, subst, arith, to_z-of_z, w32, SFits, rules}
 use Rattle.buffers.proofs.Pieces.{pieces}
-use Rattle.buffers.proofs.Sunk.{row_more}
+use Rattle.buffers.proofs.Pieces.{row_more}
 use Rattle.clauses.specs.Clauses.{numbered}
 use Rattle.sources.specs.Meaning.{clauses_of}
 use Rattle.dimacs.specs.Dimacs.{spaced}

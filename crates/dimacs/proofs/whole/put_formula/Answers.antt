@@ -1,7 +1,7 @@
 use Rattle.std.proofs.Common.{◌<◌, [], length, ap₂, ◌∙◌, sym, subst, arith, List, ℕ}
 use Rattle.std.specs.List.{flat_map}
 use Rattle.buffers.proofs.Pieces.{pieces_all}
-use Rattle.buffers.proofs.Sunk.{row_more}
+use Rattle.buffers.proofs.Pieces.{row_more}
 use Rattle.sources.specs.Meaning.{variables_of, clauses_of}
 use Rattle.dimacs.specs.Dimacs.{header, clause_text}
 use Rattle.dimacs.proofs.Lengths.{text_short}

@@ -2,7 +2,7 @@ use Rattle.std.proofs.Common.{List, ap₂, subst, ℕ, ◌++◌}
 use Rattle.std.specs.List.{flat_map}
 use Rattle.gates.specs.Records.{record_of}
 use Rattle.gates.specs.declared.gate.Gate.TheVariants.{Input}
-use Rattle.buffers.proofs.Sunk.{row_more, row_then}
+use Rattle.buffers.proofs.Pieces.{row_more, row_then}
 use Rattle.gatefiles.specs.Files.{ending}
 use Rattle.gatefiles.proofs.write.put_file.Goals as goal
 
