@@ -6,7 +6,10 @@ ghost use Rattle.std.specs.Prelude.{◌≡◌, ◌+◌, length, is_ok, if◌then
 ghost use Rattle.refusals.specs.declared.Refusal.TheVariants.{Buffer};
 ghost use Rattle.buffers.specs.Buffers.{written_at};
 
+mod sink;
+
 use refusals::Refusal;
+pub use sink::{Length, Sink, Writer};
 
 /// Writes the bytes at a place of the buffer, and answers the place behind them. Where they do not fit, they are refused, and
 /// nothing is written.

@@ -1,12 +1,14 @@
--- How long the clauses of a formula are.
-use Rattle.std.proofs.Common.{◌≡◌, ℕ, zero, suc, ◌+◌, ◌*◌, ◌≤◌, Bool, true, false, List, [], ◌∷◌, ◌++◌, length, refl, ◌∙◌, arith, length-append}
+-- How long the clauses of a formula are, and its text.
+use Rattle.std.proofs.Common.{◌≡◌, ℕ, zero, suc, ◌+◌, ◌*◌, ◌≤◌, Bool, true, false, List, [], ◌∷◌, ◌++◌, length, ℤ, pos, negsuc, codes, refl, ◌∙◌, arith, length-append, ◌<◌, ◌^◌}
 use Rattle.std.specs.List.{AllByRecursion as AllOf}
+use Rattle.std.specs.List.{flat_map}
 use Rattle.std.proofs.ByRecursion.{All-append}
+use Rattle.std.proofs.lemmas.Fmt.{length-decimal-le}
 use Rattle.values.specs.Sides.{Rail, rail0, rail1, Right, fixed, one, either, both, two_boths}
 use Rattle.gates.specs.declared.gate.Gate.{Gate}
-use Rattle.boards.proofs.Closed.{board_few}
+use Rattle.boards.proofs.Closed.{board_few, board_own}
 use Rattle.boards.specs.Sheets.{sheet}
-use Rattle.clauses.specs.Clauses.{Clause, plus, minus, across, numbered}
+use Rattle.clauses.specs.Clauses.{Clause, variable, Over, plus, minus, across}
 use Rattle.clauses.proofs.Across.{all_across}
 use Rattle.clauses.proofs.Blocks.{length_uniform}
 use Rattle.wireclauses.proofs.Wires.{bounded}
@@ -15,8 +17,11 @@ use Rattle.formulas.specs.Formulas.{rail_var, base_mark, step_mark, difference_m
 use Rattle.sources.specs.declared.formula.Formula.{Formula}
 use Rattle.sources.specs.declared.formula.FormulaKind.{FormulaKind}
 use Rattle.sources.specs.declared.formula.FormulaKind.TheVariants.{Base, Step}
-use Rattle.sources.specs.Meaning.{clauses_of, formula_clauses}
-use Rattle.dimacs.specs.Dimacs.{literals}
+use Rattle.sources.specs.Meaning.{formula_clauses, formula_variables, variables_of, clauses_of}
+use Rattle.formulas.proofs.Overs.{base_over, step_over}
+use Rattle.decimals.specs.Decimals.{text_of}
+use Rattle.dimacs.specs.Dimacs.{sign, literal_text, spaced, clause_text, header}
+use Rattle.dimacs.specs.Texts.{formula_text}
 
 -- a list with one element for each index
 singles_length : {A : Type 0} (n : ℕ) (f : ℕ → A) → length (across n (λ w. f w ∷ [])) ≡ n
@@ -123,12 +128,6 @@ module _ (m : ℕ) (three : 3 ≤ m) where
         (marks_short n d (step_mark n d))) (omega (arith, step_bad_length), tt))
         (all_across Short (d + 1) (λ j. across j (λ i. pair_clauses gs d i j)) (λ j _. all_across Short j (λ i. pair_clauses gs d i j) (λ i _. pair_short h i j)))
 
-literals_short : (m : ℕ) (cs : List Clause) → AllOf (λ c. length c ≤ m) cs → (k : ℕ) → length (literals (numbered cs k)) ≤ m
-literals_short m cs h zero = omega arith
-literals_short m [] h (suc k) = omega arith
-literals_short m (c ∷ cs) h (suc zero) = h.0
-literals_short m (c ∷ cs) h (suc (suc k)) = literals_short m cs h.1 (suc k)
-
 all_short : (kind : FormulaKind) (f : Formula) → AllOf (λ c. length c ≤ 2056) (formula_clauses kind (sheet f.board))
 all_short Base f =
     let gs = (sheet f.board).gates in
@@ -139,6 +138,41 @@ all_short Step f =
     let gs = (sheet f.board).gates in
     step_short 2056 (omega arith) gs (sheet f.board).property (sheet f.board).depth (omega (arith, board_few f.board))
 
--- A clause of a board's formula has 2056 literals at most.
-pub clause_short : (f : Formula) (number : ℕ) → length (literals (numbered (clauses_of f) number)) ≤ 2056
-clause_short f number = literals_short 2056 (clauses_of f) (all_short f.kind f) number
+all_over : (kind : FormulaKind) (f : Formula) → Over (formula_variables kind (sheet f.board)) (formula_clauses kind (sheet f.board))
+all_over Base f = base_over (sheet f.board).gates (sheet f.board).property (sheet f.board).depth (board_own f.board) (omega (arith, f.board.gates.ok.0, f.board.own_property))
+all_over Step f = step_over (sheet f.board).gates (sheet f.board).property (sheet f.board).depth (board_own f.board) (omega (arith, f.board.gates.ok.0, f.board.own_property))
+
+sign_short : (l : ℤ) → length (sign l) ≤ 1
+sign_short (pos x) = omega arith
+sign_short (negsuc x) = omega arith
+
+digits_short : (n : ℕ) → n < 2 ^ 32 → length (text_of n) ≤ 10
+digits_short n h = length-decimal-le 10 n (omega arith) (omega arith) (omega arith)
+
+-- Texts over V variables.
+module _ (V : ℕ) (few : V ≤ 65535) where
+  spaced_short : (l : ℤ) → variable l ≤ V → length (spaced l) ≤ 12
+  spaced_short l h =
+      omega (arith, sign_short l, digits_short (variable l) (omega arith), length-append (literal_text l) (codes " "), length-append (sign l) (text_of (variable l)))
+
+  row_short : (c : Clause) → AllOf (λ l. (0 < variable l) × (variable l ≤ V)) c → length (flat_map spaced c) ≤ 12 * length c
+  row_short [] over = omega arith
+  row_short (l ∷ c) over = omega (arith, spaced_short l over.0.1, row_short c over.1, length-append (spaced l) (flat_map spaced c))
+
+  lines_short : (cs : List Clause) → Over V cs → AllOf (λ c. length c ≤ 2056) cs → length (flat_map clause_text cs) ≤ 30000 * length cs
+  lines_short [] over short = omega arith
+  lines_short (c ∷ cs) over short =
+      omega (arith, row_short c over.0, short.0, lines_short cs over.1 short.1, length-append (flat_map spaced c) (codes "0\n"), length-append (clause_text c) (flat_map clause_text cs))
+
+  header_short : (C : ℕ) → C < 2 ^ 32 → length (header V C) ≤ 28
+  header_short C h =
+      omega (arith, digits_short V (omega arith), digits_short C h, length-append (text_of V) (codes " " ++ (text_of C ++ codes "\n")), length-append (text_of C) (codes "\n"))
+
+pub text_short : (f : Formula) → variables_of f ≤ 65535 → length (clauses_of f) ≤ 5000000 → length (formula_text f) < 2 ^ 64
+text_short f few small =
+    omega (
+      arith,
+      header_short (variables_of f) few (length (clauses_of f)) (omega arith),
+      lines_short (variables_of f) few (clauses_of f) (all_over f.kind f) (all_short f.kind f),
+      length-append (header (variables_of f) (length (clauses_of f))) (flat_map clause_text (clauses_of f)),
+    )

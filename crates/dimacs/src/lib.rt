@@ -4,7 +4,6 @@
 
 mod clause_texts;
 mod literals;
-mod numbers;
 pub mod tell;
 pub mod whole;
 

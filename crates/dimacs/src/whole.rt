@@ -1,35 +1,40 @@
-ghost use Rattle.std.specs.Prelude.{◌≡◌, ◌≤◌, length, is_ok, if◌then◌else◌, Ok, Err, MatchResult, nat_le};
-ghost use Rattle.std.specs.List.{flat_map};
+ghost use Rattle.std.specs.Prelude.{◌≡◌, ◌^◌, ◌<◌, ◌≤◌, length, is_ok, if◌then◌else◌, Ok, Err, MatchResult, nat_le};
 ghost use Rattle.refusals.specs.declared.Failure.TheVariants.{Memory};
 ghost use Rattle.refusals.specs.declared.Refusal.TheVariants.{Buffer};
-ghost use Rattle.buffers.specs.Buffers.{written_at, Writes};
-ghost use Rattle.sources.specs.Meaning.{clauses_of};
-ghost use Rattle.dimacs.specs.Dimacs.{header, clause_text};
+ghost use Rattle.buffers.specs.Buffers.{written_at};
+ghost use Rattle.dimacs.specs.Dimacs.{header};
 ghost use Rattle.dimacs.specs.Texts.{formula_text};
 
-use crate::clause_texts::{clause_length, write_clause};
-use crate::numbers::write_number;
-use buffers::write_bytes;
-use decimals::decimal_length;
+use crate::clause_texts::put_clause;
+use buffers::{Length, Sink, Writer};
+use decimals::put_decimal;
 use refusals::{Failure, Refusal};
 use sources::Formula;
 use std::alloc::Global;
 
-/// How many bytes the first line has.
-fn header_length(variables: u32, clauses: u32) -> usize
-    ensures is { result ≡ length (header variables clauses) }
-    ensures small { result ≤ 28 }
+/// Puts the first line into the sink.
+fn put_header<S: Sink>(out: &mut S, variables: u32, clauses: u32)
+    ensures { S.takes out.old (header variables clauses) out.new }
 {
-    8 + decimal_length(variables) + decimal_length(clauses)
+    out.put(b"p cnf ");
+    put_decimal(out, variables);
+    out.put(b" ");
+    put_decimal(out, clauses);
+    out.put(b"\n");
 }
 
-/// Writes the first line at the buffer's start, and answers the place behind it.
-fn write_header(buffer: &mut [u8], variables: u32, clauses: u32) -> Result<usize, Refusal>
-    ensures { Writes 0 (header variables clauses) buffer.old result buffer.new }
+/// Puts the text of the formula into the sink.
+fn put_formula<S: Sink>(out: &mut S, formula: &mut Formula)
+    ensures text { S.takes out.old (formula_text formula.old) out.new }
+    ensures short { length (formula_text formula.old) < 2 ^ 64 }
+    ensures same { formula.new ≡ formula.old }
 {
-    let at = write_number(buffer, 0, b"p cnf ", variables)?;
-    let at = write_number(buffer, at, b" ", clauses)?;
-    write_bytes(buffer, at, b"\n")
+    let variables = formula.variables() as u32;
+    let clauses = formula.clauses() as u32;
+    put_header(out, variables, clauses);
+    for before in 0..clauses {
+        put_clause(out, formula, before + 1);
+    }
 }
 
 /// How many bytes the text of the formula has.
@@ -37,27 +42,18 @@ pub fn dimacs_length(formula: &mut Formula) -> usize
     ensures is { result ≡ length (formula_text formula.old) }
     ensures same { formula.new ≡ formula.old }
 {
-    let variables = formula.variables() as u32;
-    let clauses = formula.clauses() as u32;
-    let mut length = header_length(variables, clauses);
-    'clauses: for before in 0..clauses {
-        length += clause_length(formula, before + 1);
-    }
-    length
+    let mut length = Length { bytes: 0 };
+    put_formula(&mut length, formula);
+    length.bytes
 }
 
-/// Writes the lines of the clauses at a place of the buffer, and answers the place behind them.
-fn write_clauses(formula: &mut Formula, buffer: &mut [u8], at: usize) -> Result<usize, Refusal>
-    requires { at ≤ length buffer.old }
-    ensures lines { Writes at (flat_map clause_text (clauses_of formula.old)) buffer.old result buffer.new }
+/// Writes the text of the formula at the start of a buffer that is long enough.
+fn write_text(formula: &mut Formula, buffer: &mut [u8])
+    ensures text { length (formula_text formula.old) ≤ length buffer.old → buffer.new ≡ written_at 0 (formula_text formula.old) buffer.old }
     ensures same { formula.new ≡ formula.old }
 {
-    let count = formula.clauses() as u32;
-    let mut next = at;
-    'clauses: for before in 0..count {
-        next = write_clause(formula, before + 1, buffer, next)?;
-    }
-    Ok(next)
+    let mut writer = Writer { buffer, at: 0 };
+    put_formula(&mut writer, formula);
 }
 
 /// Writes the text of the formula at the buffer's start, and answers its length. A buffer that is too short is refused, and
@@ -67,13 +63,12 @@ pub fn write_dimacs(formula: &mut Formula, buffer: &mut [u8]) -> Result<usize, R
     ensures after { buffer.new ≡ (if is_ok result then written_at 0 (formula_text formula.old) buffer.old else buffer.old) }
     ensures same { formula.new ≡ formula.old }
 {
-    if buffer.len() < dimacs_length(formula) {
+    let length = dimacs_length(formula);
+    if buffer.len() < length {
         return Err(Refusal::Buffer);
     }
-    let variables = formula.variables() as u32;
-    let clauses = formula.clauses() as u32;
-    let at = write_header(buffer, variables, clauses)?;
-    write_clauses(formula, buffer, at)
+    write_text(formula, buffer);
+    Ok(length)
 }
 
 /// The text of the formula.
@@ -84,6 +79,6 @@ pub fn dimacs_text(heap: Global, formula: &mut Formula) -> Result<Vec<u8>, Failu
     ensures same { formula.new ≡ formula.old }
 {
     let mut text = vec![in heap; 0u8; dimacs_length(formula)]?;
-    write_dimacs(formula, text.as_mut_slice())?;
+    write_text(formula, text.as_mut_slice());
     Ok(text)
 }

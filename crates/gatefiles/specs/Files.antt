@@ -1,5 +1,5 @@
 -- A gate file holds the records in wire order, then kind 15 with the property wire and the depth, and then ends.
-use Rattle.std.specs.Prelude.{◌≡◌, ℕ, cond, ◌≢◌, ◌⊎◌, List, [], ◌∷◌, ◌++◌, length, drop, Some, None, Ok, Err, Option, Result, nat_le}
+use Rattle.std.specs.Prelude.{◌≡◌, ℕ, cond, ◌≢◌, ◌⊎◌, List, [], ◌∷◌, ◌++◌, length, Some, None, Ok, Err, Option, Result, nat_le}
 use Rattle.std.specs.List.{flat_map}
 use Rattle.refusals.specs.declared.Refusal.{Refusal}
 use Rattle.refusals.specs.declared.Refusal.TheVariants as refusal
@@ -38,7 +38,3 @@ Read gs bytes (Err u) = (drawn u.drawing ≡ gs) × Unread gs bytes u.refusal
 abbrev pub Reread : List Gate → List ℕ → Result Board Unclosed → Type 0
 Reread gs bytes (Ok b) = (s : Sheet) → bytes ≡ file_of s → sheet b ≡ s
 Reread gs bytes (Err u) = (s : Sheet) → gs ≡ [] → bytes ≡ file_of s → file_closing s ≢ None
-
--- a buffer after a write of the bytes at its start
-abbrev pub written : List ℕ → List ℕ → List ℕ
-written bytes buffer = bytes ++ drop (length bytes) buffer
