@@ -4,8 +4,8 @@ use Rattle.gates.specs.declared.gate.Gate.{Gate}
 use Rattle.boards.specs.Sheets.{Sheet, sheet}
 use Rattle.clauses.specs.Clauses.{Clause}
 use Rattle.formulas.specs.Formulas.{base, step, base_variables, step_variables}
-use Rattle.sources.specs.declared.formula.FormulaKind.{FormulaKind}
-use Rattle.sources.specs.declared.formula.FormulaKind.TheVariants.{Base, Step}
+use Rattle.formulas.specs.declared.kind.FormulaKind.{FormulaKind}
+use Rattle.formulas.specs.declared.kind.FormulaKind.TheVariants.{Base, Step}
 use Rattle.sources.specs.declared.formula.Formula.{Formula}
 
 abbrev pub formula_clauses : FormulaKind → Sheet → List Clause

@@ -3,15 +3,7 @@ ghost use Rattle.std.specs.Prelude.{length};
 ghost use Rattle.sources.specs.Rows.{Row, plain_before, registers_before};
 
 use boards::Board;
-
-/// Which of the two formulas of a board.
-#[derive(Clone, Copy)]
-pub enum FormulaKind {
-    /// The board runs from its start for d frames, and one of them is bad.
-    Base,
-    /// The board runs from anywhere for d good frames and a bad one, and no two of them have the same registers.
-    Step,
-}
+use formulas::FormulaKind;
 
 /// A formula of a board, for a depth of d.
 ///

@@ -11,4 +11,5 @@ pub mod shape;
 pub mod source;
 mod tails;
 
-pub use formula::{Formula, FormulaKind};
+pub use formula::Formula;
+pub use formulas::FormulaKind;

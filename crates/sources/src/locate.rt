@@ -7,10 +7,11 @@ ghost use Rattle.sources.specs.Rows.{registers_before};
 ghost use Rattle.sources.specs.Places.{clause_of, Ready, PairAt, step_tail, first_difference};
 ghost use Rattle.sources.specs.Meaning.{gates_of, property_of, depth_of, clauses_of};
 
-use crate::formula::{Formula, FormulaKind};
+use crate::formula::Formula;
 use crate::pairs::{Pair, differing, pair_at};
 use crate::shape::{Shape, short};
 use crate::tails::{base_tail, good, middle};
+use formulas::FormulaKind;
 use wireclauses::Frame;
 
 impl Formula {

@@ -5,11 +5,12 @@ ghost use Rattle.clauses.specs.Clauses.{numbered};
 ghost use Rattle.sources.specs.Meaning.{gates_of, property_of, depth_of, clauses_of, variables_of};
 ghost use Rattle.std.proofs.Common.{◌∙◌, ap, refl};
 
-use crate::formula::{Formula, FormulaKind};
+use crate::formula::Formula;
 use crate::rows::row;
 use crate::shape::{shape_length, shape_literal};
 use boards::Board;
 use clauses::ClauseSource;
+use formulas::FormulaKind;
 
 impl Formula {
     /// The formula of a kind of a board.
