@@ -4,7 +4,9 @@
 
 pub mod formula;
 mod frames;
+mod literals;
 mod locate;
+mod outline;
 mod pairs;
 mod rows;
 pub mod shape;
