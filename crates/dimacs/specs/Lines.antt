@@ -1,8 +1,8 @@
 -- What is printed of a formula.
 use Rattle.std.specs.Prelude.{ℕ, List, ◌++◌, codes}
 use Rattle.decimals.specs.Decimals.{text_of}
-use Rattle.sources.specs.declared.formula.FormulaKind.{FormulaKind}
-use Rattle.sources.specs.declared.formula.FormulaKind.TheVariants.{Base, Step}
+use Rattle.formulas.specs.declared.kind.FormulaKind.{FormulaKind}
+use Rattle.formulas.specs.declared.kind.FormulaKind.TheVariants.{Base, Step}
 
 abbrev pub kind_name : FormulaKind → List ℕ
 kind_name Base = codes "base"
