@@ -15,14 +15,12 @@ pub fn taken_whole()
     ensures whole { TakenWhole }
     ensures only { OnlyRefuting }
     ensures freed { StrikeFrees }
-{
-}
+{}
 
 /// A line or a strike that is refused leaves the last number and the lines kept as they were.
 pub fn refusals_change_nothing()
     ensures { RefusalsChangeNothing }
-{
-}
+{}
 
 /// Whatever lines and strikes have been judged, accepted or refused, with any number of marks: a valuation that satisfies the
 /// formula satisfies every line kept, and if an empty line was accepted, no valuation satisfies the formula. The lines kept have
@@ -31,12 +29,10 @@ pub fn kept_lines_follow()
     ensures start { KeptAtStart }
     ensures step { KeptStays }
     ensures list { KeptLinesFollow }
-{
-}
+{}
 
 /// A formula of four clauses over two variables, refuted by three lines and a strike: the list is accepted whole with room for
 /// two lines, and not with room for one. Also a list of mistakes, each refused for its reason.
 pub fn tried()
     ensures { Tried }
-{
-}
+{}
