@@ -11,36 +11,28 @@ ghost use Rattle.acceptance.specs.Examples.{Tried};
 /// sign and its lines have room: each has a cost, and the lines not yet struck cost together at most the capacity. Of the lists
 /// that end with their one empty line and strike no clause of the formula, only such a list is accepted whole. A line that is
 /// struck frees its cost.
-pub fn taken_whole() -> u8
+pub fn taken_whole()
     ensures whole { TakenWhole }
     ensures only { OnlyRefuting }
     ensures freed { StrikeFrees }
-{
-    0
-}
+{}
 
 /// A line or a strike that is refused leaves the last number and the lines kept as they were.
-pub fn refusals_change_nothing() -> u8
+pub fn refusals_change_nothing()
     ensures { RefusalsChangeNothing }
-{
-    0
-}
+{}
 
 /// Whatever lines and strikes have been judged, accepted or refused, with any number of marks: a valuation that satisfies the
 /// formula satisfies every line kept, and if an empty line was accepted, no valuation satisfies the formula. The lines kept have
 /// literals of the variables 1 to V, rising numbers above the formula's, and cost at most the capacity.
-pub fn kept_lines_follow() -> u8
+pub fn kept_lines_follow()
     ensures start { KeptAtStart }
     ensures step { KeptStays }
     ensures list { KeptLinesFollow }
-{
-    0
-}
+{}
 
 /// A formula of four clauses over two variables, refuted by three lines and a strike: the list is accepted whole with room for
 /// two lines, and not with room for one. Also a list of mistakes, each refused for its reason.
-pub fn tried() -> u8
+pub fn tried()
     ensures { Tried }
-{
-    0
-}
+{}

@@ -1,12 +1,12 @@
 -- A line's literals are made false one by one, and its hints are taken one by one.
-use Rattle.std.proofs.Common.{◌≡◌, ℕ, ◌+◌, ◌<◌, ◌≤◌, Bool, true, false, ◌&&◌, List, length, get_or, drop, ℤ, pos, Some, None, Ok, Err, Option, sym, refl, ap, ◌∙◌, arith}
-use Rattle.std.proofs.lemmas.List.{at_drop_more, at_drop_all}
+use Rattle.std.proofs.Common.{◌≡◌, ℕ, ◌+◌, ◌<◌, Bool, true, false, ◌&&◌, List, length, get_or, drop, ℤ, pos, Some, None, Err, Option, sym, refl, ap, ◌∙◌, arith}
+use Rattle.std.proofs.lemmas.List.{at_drop_more}
 use Rattle.std.specs.Option.{option_map}
 use Rattle.refusals.specs.declared.Refusal.TheVariants as refusal
 use Rattle.clauses.specs.Clauses.{Clause}
 use Rattle.hints.specs.Hints.{Marks, Verdict, value, assign, unless_true, falsified, fits, all_fit, reading, by_reading, by_hint, by_hints}
 use Rattle.hints.specs.declared.Reading.{Reading}
-use Rattle.hints.specs.declared.Reading.TheVariants.{Conflict, Forced, Slack}
+use Rattle.hints.specs.declared.Reading.TheVariants.{Conflict, Forced}
 
 -- what a clause's reading tells, if there is a clause
 abbrev told : Option Reading → Marks → (Marks → Verdict) → Verdict
@@ -26,47 +26,21 @@ module _ (V : ℕ) (clauses : ℕ → Option Clause) (m : Marks) (hs : List ℕ)
       ∙ by_hint_told V (clauses (get_or hs i 0)) m (λ k. by_hints V clauses k (drop (i + 1) hs))
       ∙ ap (λ x. told x m (λ k. by_hints V clauses k (drop (i + 1) hs))) (sym e)
 
-  pub hint_absent : i < length hs → None ≡ option_map (reading V m Conflict) (clauses (get_or hs i 0)) → by_hints V clauses m (drop i hs) ≡ Err refusal.Absent
-  hint_absent = turn None
-
-  pub hint_conflict : i < length hs → Some Conflict ≡ option_map (reading V m Conflict) (clauses (get_or hs i 0)) → by_hints V clauses m (drop i hs) ≡ Ok tt
-  hint_conflict = turn (Some Conflict)
-
-  pub hint_slack : i < length hs → Some Slack ≡ option_map (reading V m Conflict) (clauses (get_or hs i 0)) → by_hints V clauses m (drop i hs) ≡ Err refusal.Slack
-  hint_slack = turn (Some Slack)
-
   pub hint_forced : (l : ℤ) → i < length hs → Some (Forced l) ≡ option_map (reading V m Conflict) (clauses (get_or hs i 0))
       → by_hints V clauses m (drop i hs) ≡ by_hints V clauses (assign m l true) (drop (i + 1) hs)
   hint_forced l = turn (Some (Forced l))
 
-  pub hint_end : length hs ≤ i → by_hints V clauses m (drop i hs) ≡ Err refusal.Loose
-  hint_end h = at_drop_all (by_hints V clauses m) hs i h
-
 module _ (V : ℕ) (ls : Clause) (i : ℕ) where
   pub fit_turn : i < length ls → all_fit V (drop i ls) ≡ (fits V (get_or ls i (pos 0)) && all_fit V (drop (i + 1) ls))
   fit_turn h = at_drop_more (all_fit V) ls i (pos 0) h
-
-  pub fit_end : length ls ≤ i → all_fit V (drop i ls) ≡ true
-  fit_end h = at_drop_all (all_fit V) ls i h
 
 unless_next : (v : Option Bool) (m k : Marks) (ls : Clause) → unless_true v (Some m) ≡ Some k → unless_true v (falsified m ls) ≡ falsified k ls
 unless_next None m k ls e = let same : m ≡ k = cc in ap (λ x. falsified x ls) same
 unless_next (Some false) m k ls e = let same : m ≡ k = cc in ap (λ x. falsified x ls) same
 unless_next (Some true) m k ls e = let z : ◌≡◌ {A = ℕ} 0 1 = cc in absurd (omega arith)
 
-unless_stop : (v : Option Bool) (m : Marks) (ls : Clause) → unless_true v (Some m) ≡ None → unless_true v (falsified m ls) ≡ None
-unless_stop None m ls e = let z : ◌≡◌ {A = ℕ} 0 1 = cc in absurd (omega arith)
-unless_stop (Some false) m ls e = let z : ◌≡◌ {A = ℕ} 0 1 = cc in absurd (omega arith)
-unless_stop (Some true) m ls e = refl
-
 module _ (m : Marks) (ls : Clause) (i : ℕ) where
   -- one more literal of the line
   pub false_turn : (k : Marks) → i < length ls → unless_true (value m (get_or ls i (pos 0))) (Some (assign m (get_or ls i (pos 0)) false)) ≡ Some k
       → falsified m (drop i ls) ≡ falsified k (drop (i + 1) ls)
   false_turn k h e = at_drop_more (falsified m) ls i (pos 0) h ∙ unless_next (value m (get_or ls i (pos 0))) (assign m (get_or ls i (pos 0)) false) k (drop (i + 1) ls) e
-
-  pub false_stop : i < length ls → unless_true (value m (get_or ls i (pos 0))) (Some (assign m (get_or ls i (pos 0)) false)) ≡ None → falsified m (drop i ls) ≡ None
-  false_stop h e = at_drop_more (falsified m) ls i (pos 0) h ∙ unless_stop (value m (get_or ls i (pos 0))) (assign m (get_or ls i (pos 0)) false) (drop (i + 1) ls) e
-
-  pub false_end : length ls ≤ i → falsified m (drop i ls) ≡ Some m
-  false_end h = at_drop_all (falsified m) ls i h

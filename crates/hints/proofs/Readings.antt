@@ -1,6 +1,6 @@
 -- A clause is read literal by literal.
-use Rattle.std.proofs.Common.{◌≡◌, ℕ, ◌+◌, ◌<◌, ◌≤◌, Bool, true, false, cond, [], ◌∷◌, length, get_or, drop, ℤ, pos, Some, None, Option, sym, refl, ap, ◌∙◌, ⊎_elim, arith}
-use Rattle.std.proofs.lemmas.List.{at_drop_more, at_drop_all}
+use Rattle.std.proofs.Common.{◌≡◌, ℕ, ◌+◌, ◌<◌, Bool, true, false, cond, [], ◌∷◌, length, get_or, drop, ℤ, pos, Some, None, Option, sym, refl, ap, ◌∙◌, ⊎_elim, arith}
+use Rattle.std.proofs.lemmas.List.{at_drop_more}
 use Rattle.std.proofs.lemmas.Option.{slice_get-get_or, slice_get_past}
 use Rattle.std.proofs.lemmas.Bool.{cases_lt}
 use Rattle.std.specs.Option.{option_map}
@@ -19,15 +19,6 @@ module _ (V : ℕ) (m : Marks) where
   abbrev pub from : Reading → ℕ → Option Clause → Option Reading
   from r i None = None
   from r i (Some ls) = Some (reading V m r (drop i ls))
-
-  pub from_first : (o : Option Clause) → from Conflict 0 o ≡ option_map (reading V m Conflict) o
-  from_first None = refl
-  from_first (Some ls) = refl
-
-  -- A clause has a literal at each place below its length.
-  pub no_literal : (o : Option Clause) (n i : ℕ) (r : Reading) → Some n ≡ length_of o → i < n → None ≡ option_map (joined V m r) (clause_literal o i) → ⊥
-  no_literal None n i r there h e = grind arith
-  no_literal (Some ls) n i r there h e = let here = slice_get-get_or ls i (pos 0) in grind (arith, here)
 
   -- one more literal
   pub from_more : (o : Option Clause) (i : ℕ) (r s : Reading) → Some s ≡ option_map (joined V m r) (clause_literal o i) → from r i o ≡ from s (i + 1) o
@@ -56,11 +47,6 @@ module _ (V : ℕ) (m : Marks) where
   -- A literal makes the clause slack.
   pub from_stop : (o : Option Clause) (i n : ℕ) (r : Reading) → Some n ≡ length_of o → Some Slack ≡ option_map (joined V m r) (clause_literal o i) → from r i o ≡ Some Slack
   from_stop o i n r there e = from_more o i r Slack e ∙ from_slack o (i + 1) n there
-
-  -- The literals are used up.
-  pub from_last : (o : Option Clause) (n i : ℕ) (r : Reading) → Some n ≡ length_of o → n ≤ i → from r i o ≡ Some r
-  from_last None n i r e h = grind arith
-  from_last (Some ls) n i r e h = let last = at_drop_all (reading V m r) ls i in grind (arith, last)
 
   -- What a clause forces is one of the variables.
   weighed_names : (v : Option Bool) (r : Reading) (k l : ℤ) → names V k ≡ true → (r ≡ Forced l → names V l ≡ true) → weighed r k v ≡ Forced l → names V l ≡ true

@@ -2,7 +2,7 @@
 
 #![tactic(auto)]
 
-ghost use Rattle.std.specs.Prelude.{◌≡◌, ◌-◌, true, false, length, replicate, if◌then◌else◌, Some, None, Ok, Err, nat_le};
+ghost use Rattle.std.specs.Prelude.{◌≡◌, ◌-◌, true, length, replicate, if◌then◌else◌, Some, None, Ok, Err, nat_le};
 ghost use Rattle.std.specs.Option.{option_map};
 ghost use Rattle.refusals.specs.declared.Refusal.TheVariants.{Buffer};
 ghost use Rattle.clauses.specs.Clauses.{length_of, clause_literal, variable as variable_of};
@@ -14,7 +14,7 @@ use clauses::ClauseSource;
 use refusals::Refusal;
 
 /// What a clause says under the marks.
-#[derive(Clone, Copy)]
+#[derive(Clone, Copy, PartialEq, Eq, Debug)]
 pub enum Reading {
     /// All its literals are false.
     Conflict,
@@ -24,7 +24,13 @@ pub enum Reading {
     Slack,
 }
 
+// A mark is lent as a byte: one of these two, or another where the variable is unset.
+const TRUE: u8 = 1;
+
+const FALSE: u8 = 2;
+
 /// Lent marks, one for each variable, that are cleared on every way out.
+// What works on marks takes the bytes: a method would have to say each time that the struct keeps its reference and its length.
 struct Marks<'a> {
     bytes: &'a mut [u8],
 }
@@ -43,7 +49,7 @@ fn names(variables: usize, literal: i32) -> bool
     ensures { result ≡ names_of variables literal }
 {
     let variable = literal.unsigned_abs() as usize;
-    0 < variable && variable <= variables
+    (1..=variables).contains(&variable)
 }
 
 /// Where the mark of a literal's variable stands.
@@ -53,14 +59,13 @@ fn place(literal: i32) -> usize
     literal.unsigned_abs().saturating_sub(1) as usize
 }
 
-/// The value of a literal, if it has one.
-fn value(marks: &[u8], literal: i32) -> Option<bool>
-    requires { names_of (length marks.now) literal ≡ true }
-    ensures { result ≡ value_of (marks_of marks.now) literal }
+/// The value of a literal under the mark of its variable, if it has one.
+fn value(mark: u8, literal: i32) -> Option<bool>
+    ensures { result ≡ option_map (signed literal) (mark_of mark) }
 {
-    match marks[place(literal)] {
-        1 => Some(literal > 0),
-        2 => Some(literal < 0),
+    match mark {
+        TRUE => Some(literal >= 0),
+        FALSE => Some(literal < 0),
         _ => None,
     }
 }
@@ -69,15 +74,7 @@ fn value(marks: &[u8], literal: i32) -> Option<bool>
 fn mark(literal: i32, to: bool) -> u8
     ensures { mark_of result ≡ Some (signed literal to) }
 {
-    if to == (literal < 0) { 2 } else { 1 }
-}
-
-/// Makes a literal true or false.
-fn set(marks: &mut [u8], literal: i32, to: bool)
-    requires { names_of (length marks.old) literal ≡ true }
-    ensures { marks_of marks.new ≡ assign (marks_of marks.old) literal to }
-{
-    marks[place(literal)] = mark(literal, to);
+    if to == (literal < 0) { FALSE } else { TRUE }
 }
 
 /// One more literal of a clause.
@@ -107,7 +104,8 @@ fn read_literal<C: ClauseSource>(
     if !names(marks.len(), literal) {
         return Some(Reading::Slack);
     }
-    Some(join(so_far, literal, value(marks, literal)))
+    let value = value(marks[place(literal)], literal);
+    Some(join(so_far, literal, value))
 }
 
 /// What the clause of a number says under the marks, if there is one. A slack clause is not read to its end.
@@ -117,9 +115,10 @@ fn read_clause<C: ClauseSource>(source: &mut C, marks: &[u8], number: u32) -> Op
 {
     let length = source.length(number)?;
     let mut reading = Reading::Conflict;
+    // By place: a source is asked for one literal at a time.
     for at in 0..length {
         reading = read_literal(source, marks, number, at, reading)?;
-        if let Reading::Slack = reading {
+        if reading == Reading::Slack {
             break;
         }
     }
@@ -135,12 +134,11 @@ fn take_hints<C: ClauseSource>(
     ensures answer { result ≡ by_hints (length marks.old) (C.clauses source.old) (marks_of marks.old) hints.now }
     ensures steady { C.steady source.old source.new }
 {
-    for number in hints {
-        match read_clause(source, marks, *number) {
-            None => return Err(Refusal::Absent),
-            Some(Reading::Conflict) => return Ok(()),
-            Some(Reading::Forced(literal)) => set(marks, literal, true),
-            Some(Reading::Slack) => return Err(Refusal::Slack),
+    for &number in hints {
+        match read_clause(source, marks, number).ok_or(Refusal::Absent)? {
+            Reading::Conflict => return Ok(()),
+            Reading::Forced(literal) => marks[place(literal)] = mark(literal, true),
+            Reading::Slack => return Err(Refusal::Slack),
         }
     }
     Err(Refusal::Loose)
@@ -157,37 +155,22 @@ fn fits(variables: usize, literal: i32) -> bool
 fn all_fit(variables: usize, literals: &[i32]) -> bool
     ensures { result ≡ all_fit_of variables literals.now }
 {
-    for literal in literals {
-        if !fits(variables, *literal) {
-            return false;
-        }
-    }
-    true
+    literals.iter().all(|literal| fits(variables, *literal))
 }
 
-/// Makes a literal false, unless it is true.
-fn make_false(marks: &mut [u8], literal: i32) -> bool
-    requires { names_of (length marks.old) literal ≡ true }
-    ensures { unless_true (value_of (marks_of marks.old) literal) (Some (assign (marks_of marks.old) literal false)) ≡ (if result then Some (marks_of marks.new) else None) }
-{
-    if let Some(true) = value(marks, literal) {
-        return false;
-    }
-    set(marks, literal, false);
-    true
-}
-
-/// Makes each literal false, and says whether that can be done: not where two are opposite.
-fn falsify(marks: &mut [u8], literals: &[i32]) -> bool
+/// Makes each literal false, if that can be done: not where two are opposite.
+fn falsify(marks: &mut [u8], literals: &[i32]) -> Option<()>
     requires { all_fit_of (length marks.old) literals.now ≡ true }
-    ensures { falsified (marks_of marks.old) literals.now ≡ (if result then Some (marks_of marks.new) else None) }
+    ensures { falsified (marks_of marks.old) literals.now ≡ option_map (λ _. marks_of marks.new) result }
 {
-    for literal in literals {
-        if !make_false(marks, *literal) {
-            return false;
+    for &literal in literals {
+        let at = place(literal);
+        if value(marks[at], literal) == Some(true) {
+            return None;
         }
+        marks[at] = mark(literal, false);
     }
-    true
+    Some(())
 }
 
 /// Checks a line with one mark for each variable.
@@ -206,10 +189,10 @@ fn judge<C: ClauseSource>(
     if !all_fit(guard.bytes.len(), literals) {
         return Err(Refusal::Literal);
     }
-    if !falsify(guard.bytes, literals) {
-        return Ok(());
+    match falsify(guard.bytes, literals) {
+        None => Ok(()),
+        Some(()) => take_hints(source, guard.bytes, hints),
     }
-    take_hints(source, guard.bytes, hints)
 }
 
 /// Does the line follow, by its hints in order, from the clauses of the source?
@@ -230,7 +213,8 @@ pub fn check_line<C: ClauseSource>(
     if marks.len() < variables {
         return Err(Refusal::Buffer);
     }
-    judge(source, &mut marks[0..variables], literals, hints)
+    // By range: of a part lent by `get_mut` it is not known what the marks hold afterwards.
+    judge(source, &mut marks[..variables], literals, hints)
 }
 
 /// Clears the marks of the variables, if there are enough.
@@ -241,6 +225,7 @@ pub fn clear(marks: &mut [u8], variables: usize) -> Result<(), Refusal>
     if variables > marks.len() {
         return Err(Refusal::Buffer);
     }
-    marks[0..variables].fill(0);
+    // By range: of a part lent by `get_mut` it is not known what the marks hold afterwards.
+    marks[..variables].fill(0);
     Ok(())
 }

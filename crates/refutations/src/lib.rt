@@ -8,18 +8,14 @@ ghost use Rattle.refutations.specs.Claims.{Sound, RefutedIffListed};
 ghost use Rattle.refutations.specs.Words.{MarksInWords, LineInWords, ReadingInWords, HintsInWords};
 
 /// A line that follows by its hints from some clauses is true under every valuation that makes these clauses true.
-pub fn sound() -> u8
+pub fn sound()
     ensures { Sound }
-{
-    0
-}
+{}
 
 /// A formula over the variables 1 to V is unsatisfiable exactly when there is a refuting list for it.
-pub fn refuted_iff_listed() -> u8
+pub fn refuted_iff_listed()
     ensures { RefutedIffListed }
-{
-    0
-}
+{}
 
 /// The hint rule in words.
 ///
@@ -28,11 +24,9 @@ pub fn refuted_iff_listed() -> u8
 /// literals are false; it forces a literal exactly if that is its one unset literal, perhaps repeated, and the others are false;
 /// else it is slack. Hints are taken exactly if one of them, after others that force, is in conflict; else the answer tells what
 /// the first is that does not force, or that all do.
-pub fn rule_in_words() -> u8
+pub fn rule_in_words()
     ensures marks { MarksInWords }
     ensures line { LineInWords }
     ensures reading { ReadingInWords }
     ensures hints { HintsInWords }
-{
-    0
-}
+{}

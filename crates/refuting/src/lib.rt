@@ -14,7 +14,7 @@ use refusals::Refusal;
 use shelf::{Premises, Shelf};
 
 /// The highest number that a line may have.
-const HIGHEST: u32 = 2147483647;
+const HIGHEST: u32 = i32::MAX as u32;
 
 /// A formula that is being refuted, with the lines kept so far.
 ///
@@ -28,17 +28,16 @@ pub struct Refutation<F: ClauseSource, S: Shelf> {
 
 impl<F: ClauseSource, S: Shelf> Refutation<F, S> {
     /// Begins to refute a formula of so many clauses and variables. The shelf is wiped.
-    pub fn new(formula: F, count: u32, variables: usize, shelf: S) -> Refutation<F, S>
+    pub fn new(formula: F, count: u32, variables: usize, mut shelf: S) -> Refutation<F, S>
         ensures terms { terms_of F.ClauseSource.clauses S.Shelf.capacity S.Shelf.cost result ≡ terms variables count (F.ClauseSource.clauses formula) (S.Shelf.capacity shelf) S.Shelf.cost }
         ensures progress { progress_of S.Shelf.lines result ≡ progress count [] }
         ensures formula { result.premises.formula ≡ formula }
     {
-        let mut empty = shelf;
-        empty.wipe();
+        shelf.wipe();
         Refutation {
             premises: Premises {
                 formula,
-                shelf: empty,
+                shelf,
                 count,
             },
             variables,
@@ -92,7 +91,7 @@ impl<F: ClauseSource, S: Shelf> Refutation<F, S> {
         ensures terms { terms_of F.ClauseSource.clauses S.Shelf.capacity S.Shelf.cost self.new ≡ terms_of F.ClauseSource.clauses S.Shelf.capacity S.Shelf.cost self.old }
         ensures formula { self.new.premises.formula ≡ self.old.premises.formula }
     {
-        if 0 < number && number <= self.premises.count {
+        if self.premises.in_formula(number) {
             return Ok(());
         }
         self.premises.shelf.strike(number)
@@ -124,15 +123,14 @@ impl<F: ClauseSource, S: Shelf> Refutation<F, S> {
         ensures { result ≡ (self.premises.formula, self.premises.shelf) }
     {
         let Refutation {
-            premises,
+            premises: Premises {
+                formula,
+                shelf,
+                count: _,
+            },
             variables: _,
             last: _,
         } = self;
-        let Premises {
-            formula,
-            shelf,
-            count: _,
-        } = premises;
         (formula, shelf)
     }
 }

@@ -21,23 +21,7 @@ mod tests {
     use std::test::Fail;
 
     fn begun() -> Refutation<Square, Lone> {
-        Refutation::new(Square::new(), 4, 2, Lone::Empty)
-    }
-
-    // Why a line is refused, if it is.
-    fn line(
-        case: &mut Refutation<Square, Lone>,
-        marks: &mut [u8],
-        number: u32,
-        literals: &[i32],
-        hints: &[u32],
-    ) -> Option<Refusal> {
-        case.line(marks, number, literals, hints).err()
-    }
-
-    // Why a strike is refused, if it is.
-    fn strike(case: &mut Refutation<Square, Lone>, number: u32) -> Option<Refusal> {
-        case.strike(number).err()
+        Refutation::new(Square::new(), 4, 2, Lone::default())
     }
 
     // What the check answers over marks that hold something, and whether exactly the first two are cleared.
@@ -113,18 +97,18 @@ mod tests {
         let mut marks = [3u8; 2];
         let mut case = begun();
         assert!(rt; case.last() == 4 && case.count() == 4 && case.variables() == 2);
-        assert_eq!(rt; line(&mut case, &mut marks, 6, &[2], &[1, 2]), None);
+        assert_eq!(rt; case.line(&mut marks, 6, &[2], &[1, 2]), Ok(()));
         assert!(rt; case.last() == 6);
-        assert_eq!(rt; strike(&mut case, 3), None);
-        assert_eq!(rt; line(&mut case, &mut marks, 7, &[], &[6, 3, 4]), None);
+        assert_eq!(rt; case.strike(3), Ok(()));
+        assert_eq!(rt; case.line(&mut marks, 7, &[], &[6, 3, 4]), Ok(()));
         assert!(rt; case.last() == 7);
-        assert_eq!(rt; strike(&mut case, 6), None);
+        assert_eq!(rt; case.strike(6), Ok(()));
         assert_eq!(rt;
-            line(&mut case, &mut marks, 8, &[], &[6, 3, 4]),
-            Some(Refusal::Absent)
+            case.line(&mut marks, 8, &[], &[6, 3, 4]),
+            Err(Refusal::Absent)
         );
-        assert_eq!(rt; line(&mut case, &mut marks, 9, &[1], &[1, 3]), None);
-        assert_eq!(rt; line(&mut case, &mut marks, 10, &[], &[9, 2, 4]), None);
+        assert_eq!(rt; case.line(&mut marks, 9, &[1], &[1, 3]), Ok(()));
+        assert_eq!(rt; case.line(&mut marks, 10, &[], &[9, 2, 4]), Ok(()));
         assert!(rt; case.last() == 10);
     }
 
@@ -133,57 +117,39 @@ mod tests {
         let mut case = begun();
         let mut short = [7u8];
         let mut marks = [7u8, 7, 7];
-        assert_eq!(rt;
-            line(&mut case, &mut short, 4, &[0], &[9]),
-            Some(Refusal::Buffer)
-        );
+        assert_eq!(rt; case.line(&mut short, 4, &[0], &[9]), Err(Refusal::Buffer));
         assert!(rt; short == [7]);
-        assert_eq!(rt;
-            line(&mut case, &mut marks, 4, &[0], &[9]),
-            Some(Refusal::Number)
-        );
+        assert_eq!(rt; case.line(&mut marks, 4, &[0], &[9]), Err(Refusal::Number));
         assert!(rt; marks == [0, 0, 7]);
         assert_eq!(rt;
-            line(&mut case, &mut marks, 2147483648, &[0], &[9]),
-            Some(Refusal::Number)
+            case.line(&mut marks, 2147483648, &[0], &[9]),
+            Err(Refusal::Number)
         );
+        assert_eq!(rt; case.line(&mut marks, 5, &[0], &[9]), Err(Refusal::Literal));
         assert_eq!(rt;
-            line(&mut case, &mut marks, 5, &[0], &[9]),
-            Some(Refusal::Literal)
+            case.line(&mut marks, 5, &[2, 1], &[9]),
+            Err(Refusal::Absent)
         );
-        assert_eq!(rt;
-            line(&mut case, &mut marks, 5, &[2, 1], &[9]),
-            Some(Refusal::Absent)
-        );
-        assert_eq!(rt;
-            line(&mut case, &mut marks, 5, &[], &[1, 9]),
-            Some(Refusal::Slack)
-        );
-        assert_eq!(rt;
-            line(&mut case, &mut marks, 5, &[2], &[1]),
-            Some(Refusal::Loose)
-        );
+        assert_eq!(rt; case.line(&mut marks, 5, &[], &[1, 9]), Err(Refusal::Slack));
+        assert_eq!(rt; case.line(&mut marks, 5, &[2], &[1]), Err(Refusal::Loose));
         // A line of two literals has no cost here, and none is kept.
         assert_eq!(rt;
-            line(&mut case, &mut marks, 5, &[2, 1], &[1]),
-            Some(Refusal::Space)
+            case.line(&mut marks, 5, &[2, 1], &[1]),
+            Err(Refusal::Space)
         );
         assert!(rt; case.last() == 4);
-        assert_eq!(rt; line(&mut case, &mut marks, 5, &[2], &[1, 2]), None);
+        assert_eq!(rt; case.line(&mut marks, 5, &[2], &[1, 2]), Ok(()));
         // The shelf is full now.
         assert_eq!(rt;
-            line(&mut case, &mut marks, 6, &[1], &[1, 3]),
-            Some(Refusal::Space)
+            case.line(&mut marks, 6, &[1], &[1, 3]),
+            Err(Refusal::Space)
         );
         assert_eq!(rt;
-            line(&mut case, &mut marks, 5, &[1], &[1, 3]),
-            Some(Refusal::Number)
+            case.line(&mut marks, 5, &[1], &[1, 3]),
+            Err(Refusal::Number)
         );
         assert!(rt; case.last() == 5);
-        assert_eq!(rt;
-            line(&mut case, &mut marks, 2147483647, &[], &[5, 3, 4]),
-            None
-        );
+        assert_eq!(rt; case.line(&mut marks, 2147483647, &[], &[5, 3, 4]), Ok(()));
         assert!(rt; case.last() == 2147483647 && marks == [0, 0, 7]);
     }
 
@@ -191,39 +157,39 @@ mod tests {
     fn strikes_take_lines_alone(rt: HostRuntime) {
         let mut marks = [0u8; 2];
         let mut case = begun();
-        assert_eq!(rt; strike(&mut case, 0), Some(Refusal::Absent));
-        assert_eq!(rt; strike(&mut case, 5), Some(Refusal::Absent));
-        assert_eq!(rt; line(&mut case, &mut marks, 5, &[2], &[1, 2]), None);
-        assert_eq!(rt; strike(&mut case, 1), None);
-        assert_eq!(rt; strike(&mut case, 5), None);
-        assert_eq!(rt; strike(&mut case, 5), Some(Refusal::Absent));
+        assert_eq!(rt; case.strike(0), Err(Refusal::Absent));
+        assert_eq!(rt; case.strike(5), Err(Refusal::Absent));
+        assert_eq!(rt; case.line(&mut marks, 5, &[2], &[1, 2]), Ok(()));
+        assert_eq!(rt; case.strike(1), Ok(()));
+        assert_eq!(rt; case.strike(5), Ok(()));
+        assert_eq!(rt; case.strike(5), Err(Refusal::Absent));
         // A number once used is not used again.
         assert_eq!(rt;
-            line(&mut case, &mut marks, 5, &[2], &[1, 2]),
-            Some(Refusal::Number)
+            case.line(&mut marks, 5, &[2], &[1, 2]),
+            Err(Refusal::Number)
         );
-        assert_eq!(rt; line(&mut case, &mut marks, 6, &[2], &[1, 2]), None);
+        assert_eq!(rt; case.line(&mut marks, 6, &[2], &[1, 2]), Ok(()));
         let (square, shelf) = case.into_parts();
         assert!(rt; square.asked() > 0);
         let mut next = Refutation::new(square, 3, 2, shelf);
         assert!(rt; next.last() == 3);
-        assert_eq!(rt; strike(&mut next, 6), Some(Refusal::Absent));
-        assert_eq!(rt; line(&mut next, &mut marks, 4, &[2], &[1, 2]), None);
+        assert_eq!(rt; next.strike(6), Err(Refusal::Absent));
+        assert_eq!(rt; next.line(&mut marks, 4, &[2], &[1, 2]), Ok(()));
     }
 
     // The same refutation over any shelf. It has to have room for the lines 5 and 6 together, and for line 7 once 5 is struck.
     fn refuted_over<S: Shelf + Drop>(rt: &impl Abort, shelf: S) {
         let mut marks = [9u8; 2];
         let mut case = Refutation::new(Square::new(), 4, 2, shelf);
-        assert_eq!(rt; case.line(&mut marks, 5, &[2, 2], &[1, 2]).err(), None);
-        assert_eq!(rt; case.line(&mut marks, 6, &[1], &[1, 3]).err(), None);
+        assert_eq!(rt; case.line(&mut marks, 5, &[2, 2], &[1, 2]), Ok(()));
+        assert_eq!(rt; case.line(&mut marks, 6, &[1], &[1, 3]), Ok(()));
         assert_eq!(rt;
-            case.line(&mut marks, 7, &[-1], &[2, 4]).err(),
-            Some(Refusal::Space)
+            case.line(&mut marks, 7, &[-1], &[2, 4]),
+            Err(Refusal::Space)
         );
-        assert_eq!(rt; case.strike(5).err(), None);
-        assert_eq!(rt; case.line(&mut marks, 7, &[-1], &[2, 4]).err(), None);
-        assert_eq!(rt; case.line(&mut marks, 8, &[], &[6, 7]).err(), None);
+        assert_eq!(rt; case.strike(5), Ok(()));
+        assert_eq!(rt; case.line(&mut marks, 7, &[-1], &[2, 4]), Ok(()));
+        assert_eq!(rt; case.line(&mut marks, 8, &[], &[6, 7]), Ok(()));
         assert!(rt; case.last() == 8);
     }
 

@@ -9,10 +9,10 @@ use refusals::Refusal;
 use shelf::Shelf;
 
 /// A shelf for one line of one literal.
-#[derive(Drop)]
-pub enum Lone {
-    Empty,
-    Line(u32, i32),
+#[derive(Default, Drop)]
+pub struct Lone {
+    // A number and a literal.
+    line: Option<(u32, i32)>,
 }
 
 impl ClauseSource for Lone {
@@ -27,15 +27,15 @@ impl ClauseSource for Lone {
     ghost same = { λ _ _ p. ap find p };
 
     fn length(&mut self, number: u32) -> Option<usize> {
-        match *self {
-            Lone::Line(kept, _) if kept == number => Some(1),
+        match self.line {
+            Some((kept, _)) if kept == number => Some(1),
             _ => None,
         }
     }
 
     fn literal(&mut self, number: u32, at: usize) -> Option<i32> {
-        match *self {
-            Lone::Line(kept, literal) if kept == number && at == 0 => Some(literal),
+        match self.line {
+            Some((kept, literal)) if kept == number && at == 0 => Some(literal),
             _ => None,
         }
     }
@@ -67,9 +67,9 @@ impl Shelf for Lone {
     }
 
     fn keep(&mut self, number: u32, literals: &[i32]) -> Result<(), Refusal> {
-        match (&*self, literals) {
-            (Lone::Empty, [literal]) => {
-                *self = Lone::Line(number, *literal);
+        match (self.line, literals) {
+            (None, [literal]) => {
+                self.line = Some((number, *literal));
                 Ok(())
             }
             _ => Err(Refusal::Space),
@@ -77,9 +77,9 @@ impl Shelf for Lone {
     }
 
     fn strike(&mut self, number: u32) -> Result<(), Refusal> {
-        match *self {
-            Lone::Line(kept, _) if kept == number => {
-                *self = Lone::Empty;
+        match self.line {
+            Some((kept, _)) if kept == number => {
+                self.line = None;
                 Ok(())
             }
             _ => Err(Refusal::Absent),
@@ -87,6 +87,6 @@ impl Shelf for Lone {
     }
 
     fn wipe(&mut self) {
-        *self = Lone::Empty;
+        self.line = None;
     }
 }

@@ -16,10 +16,13 @@ pub struct Premises<F: ClauseSource, S: Shelf> {
     pub count: u32,
 }
 
-fn in_formula(count: u32, number: u32) -> bool
-    ensures { result ≡ of_formula count number }
-{
-    0 < number && number <= count
+impl<F: ClauseSource, S: Shelf> Premises<F, S> {
+    /// Does the number name a clause of the formula?
+    pub fn in_formula(&self, number: u32) -> bool
+        ensures { result ≡ of_formula self.now.count number }
+    {
+        (1..=self.count).contains(&number)
+    }
 }
 
 impl<F: ClauseSource, S: Shelf> ClauseSource for Premises<F, S> {
@@ -38,7 +41,7 @@ impl<F: ClauseSource, S: Shelf> ClauseSource for Premises<F, S> {
     ghost same = { λ x y p. premises_same p.0 (F.ClauseSource.same _ _ p.1) (S.ClauseSource.same _ _ p.2) };
 
     fn length(&mut self, number: u32) -> Option<usize> {
-        if in_formula(self.count, number) {
+        if self.in_formula(number) {
             self.formula.length(number)
         } else {
             self.shelf.length(number)
@@ -46,7 +49,7 @@ impl<F: ClauseSource, S: Shelf> ClauseSource for Premises<F, S> {
     }
 
     fn literal(&mut self, number: u32, at: usize) -> Option<i32> {
-        if in_formula(self.count, number) {
+        if self.in_formula(number) {
             self.formula.literal(number, at)
         } else {
             self.shelf.literal(number, at)

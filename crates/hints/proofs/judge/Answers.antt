@@ -1,21 +1,11 @@
-use Rattle.std.proofs.Common.{◌≡◌, true, length, replicate, Some, None, sym, ap, ◌∙◌, rules}
+use Rattle.std.proofs.Common.{◌≡◌, true, length, replicate, Some, sym, ap, ◌∙◌, rules}
 use Rattle.hints.specs.Bytes.{marks_of}
 use Rattle.hints.specs.Hints.{falsified, all_fit, by_hints}
-use Rattle.hints.proofs.Bytes.{screened_opposite, screened_hints}
+use Rattle.hints.proofs.Bytes.{screened_hints}
 use Rattle.hints.proofs.judge.Goals as goal
 
-pub returns-then-not-falsify : goal.returns-then-not-falsify
-returns-then-not-falsify g c =
-    let V = length c.args.marks.now in
-    let ls = c.args.literals.now in
-    let fresh : c.fill.new.self ≡ replicate V 0 = search rules in
-    let fit : all_fit V ls ≡ true = search rules in
-    let stop : falsified (marks_of c.fill.new.self) ls ≡ None = search rules in
-    let told = screened_opposite V c.fill.new.self (g.C.ClauseSource.clauses c.args.source.now) ls c.args.hints.now fresh fit stop in
-    record { answer = cc; marks = search rules; steady = search rules }
-
-pub returns : goal.returns
-returns g c =
+pub returns-clause-answer : goal.returns-clause-answer
+returns-clause-answer g c =
     let V = length c.args.marks.now in
     let clauses = g.C.ClauseSource.clauses c.args.source.now in
     let ls = c.args.literals.now in
@@ -25,8 +15,4 @@ returns g c =
     let size : length c.falsify.new.marks ≡ V = search rules in
     let false : falsified (marks_of c.fill.new.self) ls ≡ Some m = search rules in
     let told = screened_hints V c.fill.new.self clauses ls c.args.hints.now fresh fit m false in
-    record {
-      answer = c.take_hints.ensures.answer ∙ (ap (λ n. by_hints n clauses m c.args.hints.now) size ∙ sym told);
-      marks = search rules;
-      steady = search rules;
-    }
+    c.take_hints.ensures.answer ∙ (ap (λ n. by_hints n clauses m c.args.hints.now) size ∙ sym told)

@@ -1,14 +1,11 @@
-use Rattle.std.proofs.Common.{◌≡◌, length, Some, None, arith}
+use Rattle.std.proofs.Common.{◌≡◌, length, Some, arith, rules}
 use Rattle.std.specs.Option.{option_map}
 use Rattle.clauses.specs.Clauses.{length_of, clause_literal}
 use Rattle.hints.specs.Bytes.{marks_of}
 use Rattle.hints.specs.Hints.{joined}
 use Rattle.hints.specs.declared.Reading.TheVariants.{Slack}
-use Rattle.hints.proofs.Readings.{from_first, from_more, from_stop, from_last, no_literal}
+use Rattle.hints.proofs.Readings.{from_more, from_stop}
 use Rattle.hints.proofs.read_clause.Goals as goal
-
-pub loop-at-init : goal.loop-at-init
-loop-at-init g c = (from_first _ _ _, g.met.C.ClauseSource.stays _)
 
 pub loop-at-preserved : goal.loop-at-preserved
 loop-at-preserved g c =
@@ -17,33 +14,8 @@ loop-at-preserved g c =
     let said = c.in_ok-reading.ensures.answer in
     (grind (arith, from_more), law.goes_on _ _ _ c.loop-at.invariant.1 c.read_literal.ensures.steady)
 
-pub returns-after-loop-at : goal.returns-after-loop-at
-returns-after-loop-at g c =
-    let law = g.met.C.ClauseSource in
-    let kept = law.same _ _ c.length.ensures.steady in
-    let long = c.in_ok-length.ensures.answer in
-    record {
-      answer = grind (arith, from_last);
-      steady = law.goes_on _ _ _ c.length.ensures.steady c.loop-at.invariant.1;
-    }
-
--- A literal below the length is there.
-pub returns-in_err-reading : goal.returns-in_err-reading
-returns-in_err-reading g c =
-    let law = g.met.C.ClauseSource in
-    let kept = law.same _ _ c.length.ensures.steady in
-    let still = law.same _ _ c.loop-at.invariant.1 in
-    let long = c.in_ok-length.ensures.answer in
-    let said = c.in_err-reading.ensures.answer in
-    let V = length c.args.marks.now in
-    let m = marks_of c.args.marks.now in
-    let o = g.C.ClauseSource.clauses c.loop-at.source c.args.number in
-    let there : Some c.in_ok-length.length ≡ length_of o = cc in
-    let none : None ≡ option_map (joined V m c.loop-at.reading) (clause_literal o c.loop-at.at) = cc in
-    absurd (no_literal V m o c.in_ok-length.length c.loop-at.at c.loop-at.reading there c.loop-at-test.true none)
-
-pub returns-in-Slack : goal.returns-in-Slack
-returns-in-Slack g c =
+pub returns-then-eq-clause-answer : goal.returns-then-eq-clause-answer
+returns-then-eq-clause-answer g c =
     let law = g.met.C.ClauseSource in
     let kept = law.same _ _ c.length.ensures.steady in
     let still = law.same _ _ c.loop-at.invariant.1 in
@@ -53,9 +25,7 @@ returns-in-Slack g c =
     let m = marks_of c.args.marks.now in
     let o = g.C.ClauseSource.clauses c.loop-at.source c.args.number in
     let there : Some c.in_ok-length.length ≡ length_of o = cc in
+    let slack : c.in_ok-reading.reading ≡ Slack = search rules in
     let told : Some Slack ≡ option_map (joined V m c.loop-at.reading) (clause_literal o c.loop-at.at) = cc in
     let stop = from_stop V m o c.loop-at.at c.in_ok-length.length c.loop-at.reading there told in
-    record {
-      answer = cc;
-      steady = law.goes_on _ _ _ c.length.ensures.steady (law.goes_on _ _ _ c.loop-at.invariant.1 c.read_literal.ensures.steady);
-    }
+    cc
