@@ -106,11 +106,11 @@ module _ (bs rest : List ℕ) (v : ℕ) (e : scan 0 bs ≡ Some (v, rest)) where
   scanned_same n s l h f = same_pair n v s rest (sym (scan_text n s l h) ∙ ap (scan 0) (sym f) ∙ e)
 
   -- no digit
-  pub none_from_empty : bs ≡ rest → (n : ℕ) (s : List ℕ) → n ≤ 2147483647 → Stops s → bs ≢ text_of n ++ s
+  pub none_from_empty : length bs ≤ length rest → (n : ℕ) (s : List ℕ) → n ≤ 2147483647 → Stops s → bs ≢ text_of n ++ s
   none_from_empty k n s l h f =
       let same = scanned_same n s l h f in
       let some = decimal_nonempty n (omega arith) in
-      omega (arith, ap length f, length-append (text_of n) s, ap length same.1, ap length k)
+      omega (arith, ap length f, length-append (text_of n) s, ap length same.1, k)
 
   -- a leading zero
   pub none_from_zero : get_or bs 0 0 ≡ 48 → length rest + 1 < length bs → (n : ℕ) (s : List ℕ) → n ≤ 2147483647 → Stops s → bs ≢ text_of n ++ s

@@ -7,13 +7,10 @@ use Rattle.std.proofs.lemmas.List.{append_assoc, append-nil}
 use Rattle.decimals.specs.Decimals.{text_of}
 use Rattle.proofgrammar.specs.Grammar.{Number, Literal, words}
 use Rattle.proofgrammar.specs.Parts.{Stops, SmallNumber, SmallLiteral}
+use Rattle.proofgrammar.specs.Kinds.{One, Kind}
 use Rattle.std.specs.Str.{all_ascii_digits}
 use Rattle.std.proofs.lemmas.Fmt.{digits_decimal, decimal_nonempty, decimal_digit}
 use Rattle.proofgrammar.proofs.Scans.{own, same_pair, scan, scan_text, first_digit}
-
--- the texts of two words are the same, with what stops them
-abbrev pub One : {X : Type 0} → (X → List ℕ) → (X → Type 0) → Type 0
-One {X} text Small = (x y : X) (s t : List ℕ) → Small x → Small y → Stops s → Stops t → text x ++ s ≡ text y ++ t → (x ≡ y) × (s ≡ t)
 
 pub one_number : One text_of SmallNumber
 one_number m n s t l h p q e = same_pair m n s t (sym (scan_text m s l p) ∙ ap (scan 0) e ∙ scan_text n t h q)
@@ -45,22 +42,22 @@ one_literal (negsuc m) (negsuc n) s t l h p q e =
     let value : m ≡ n = omega (arith, both.0) in
     (ap negsuc value, both.1)
 
--- A kind of words: the small ones are good, or the nil whose text is 0 and ends a list.
-pub record Kind {X : Type 0} (text : X → List ℕ) (Small Good : X → Type 0) (nil : X) : Type 0 where
-  pub one : One text Small
-  pub small : (x : X) → Good x → Small x
-  pub nil_small : Small nil
-  pub nil_text : text nil ≡ 48 ∷ []
-  pub nil_bad : (x : X) → Good x → x ≢ nil
+positive : (n : ℕ) → n ≢ 0 → 0 < n
+positive n h = omega arith
 
 pub numbers : Kind text_of SmallNumber Number 0
 numbers = record {
   one = one_number;
   small = λ n h. h.1;
+  good = λ n h e. (positive n e, h);
   nil_small = omega arith;
   nil_text = decimal_digit 0 (omega arith);
   nil_bad = λ n h e. omega (arith, h.0);
 }
+
+literal_good : (l : ℤ) → SmallLiteral l → l ≢ pos 0 → Literal l
+literal_good (pos n) s h = (positive n (λ e. h (ap pos e)), s)
+literal_good (negsuc n) s h = (omega arith, s)
 
 not_zero : (l : ℤ) → Literal l → l ≢ pos 0
 not_zero (pos n) h e = let z : ◌≡◌ {A = ℕ} n 0 = cc in omega (arith, h.0)
@@ -70,6 +67,7 @@ pub literals : Kind signed_decimal SmallLiteral Literal (pos 0)
 literals = record {
   one = one_literal;
   small = λ l h. h.1;
+  good = literal_good;
   nil_small = omega arith;
   nil_text = decimal_digit 0 (omega arith);
   nil_bad = not_zero;

@@ -7,15 +7,11 @@
 ghost use Rattle.proofgrammar.specs.Claims.{OneReading, OneNext};
 
 /// A text begins with at most one proof line.
-pub fn one_reading() -> u8
+pub fn one_reading()
     ensures { OneReading }
-{
-    0
-}
+{}
 
 /// One thing stands next in a text: its end, a proof line, or no proof line.
-pub fn one_next() -> u8
+pub fn one_next()
     ensures { OneNext }
-{
-    0
-}
+{}

@@ -1,16 +1,16 @@
 -- What a call of the reader answers and leaves is what belongs to what stands next.
-use Rattle.std.proofs.Common.{◌≡◌, ℕ, ◌+◌, ◌-◌, ◌<◌, ◌≤◌, Bool, true, false, cond, List, [], ◌++◌, length, drop, replicate, pos, Some, None, Ok, Err, Result, sym, refl, ap, ◌∙◌, arith}
+use Rattle.std.proofs.Common.{◌≡◌, ℕ, ◌+◌, ◌-◌, ◌<◌, ◌≤◌, Bool, true, false, cond, List, [], ◌++◌, length, drop, replicate, pos, Ok, Err, Result, sym, refl, ap, ◌∙◌, arith}
 use Rattle.std.proofs.lemmas.List.{drop_all, drop-replicate, length-replicate, length-drop, length-append}
 use Rattle.std.proofs.lemmas.Bool.Decides.{nat_tests}
 use Rattle.refusals.specs.declared.Refusal.{Refusal}
 use Rattle.refusals.specs.declared.Refusal.TheVariants as refusal
 use Rattle.proofgrammar.specs.Grammar.{Entry, line_text, Next, end, entry, other, Stands}
-use Rattle.proofgrammar.proofs.Lines.{line_some, one_next}
+use Rattle.proofgrammar.proofs.Lines.{one_next}
 use Rattle.prooftext.specs.Lists.{Held}
 use Rattle.prooftext.specs.declared.item.Item.{Item}
 use Rattle.prooftext.specs.declared.item.Item.TheVariants.{End}
 use Rattle.prooftext.specs.Rows.{Rows, rows, filled}
-use Rattle.prooftext.specs.Items.{answer_of, literals_of, numbers_of, LineAt}
+use Rattle.prooftext.specs.Items.{answer_of, literals_of, numbers_of, NoLine, HasLine}
 use Rattle.prooftext.specs.Readings.{State, state, filled_with, fits_in, outcome, Read, Reread}
 
 room : (i : Entry) (l n : ℕ) → fits_in i l n ≡ true → (length (literals_of i) ≤ l) × (length (numbers_of i) ≤ n)
@@ -58,16 +58,16 @@ module _ (text : List ℕ) (before : State) where
     again : (r : Rows) → Zeros after r → Zeros before.rows r
     again r z = (z.0 ∙ ap (λ k. replicate k (pos 0)) long, z.1 ∙ ap (λ k. replicate k 0) size)
 
-    pub read_other : (r : Rows) → Zeros after r → before.place < length text → LineAt text before.place zeros after None
+    pub read_other : (r : Rows) → Zeros after r → before.place < length text → NoLine (drop before.place text)
         → Both (Err refusal.Text) (state before.place r)
     read_other r z h none =
         pinned other (Err refusal.Text) (state before.place r) ((λ e. omega (arith, ap length e, length-drop before.place text)), none)
         (blank (Err refusal.Text) r (again r z))
 
-    module _ (item : Item) (next : ℕ) (found : LineAt text before.place zeros after (Some (item, next))) (enough : Bool)
+    module _ (item : Item) (rest : List ℕ) (found : HasLine (drop before.place text) zeros after item rest) (enough : Bool)
         (room_is : (i : Entry) → answer_of i ≡ item → enough ≡ fits_in i (length after.literals) (length after.numbers)) where
       there : Stands (drop before.place text) (entry found.0)
-      there = (found.1, (drop next text, found.5))
+      there = (found.1, (rest, found.5))
 
       -- what is answered and left, by whether there is room
       chosen : outcome (entry found.0) before
@@ -84,12 +84,13 @@ module _ (text : List ℕ) (before : State) where
           pinned (entry found.0) (Err refusal.Buffer) (state before.place r) there
           (blank (Err refusal.Buffer) r (again r z) ∙ sym (rw (chosen, e) refl))
 
-      pub read_line : enough ≡ true → Both (Ok item) (state next after)
-      read_line e =
+      pub read_line : before.place < length text → enough ≡ true → Both (Ok item) (state (length text - length rest) after)
+      read_line h e =
           let i = found.0 in
           let spare = room i (length after.literals) (length after.numbers) (sym (room_is i found.2) ∙ e) in
+          let next = length text - length rest in
           let moved : next ≡ before.place + length (line_text i) =
-          omega (arith, ap length found.5, length-append (line_text i) (drop next text), length-drop before.place text, length-drop next text, line_some i found.1, found.6) in
+          omega (arith, ap length found.5, length-append (line_text i) rest, length-drop before.place text) in
           let left = filled_held (pos 0) (length before.rows.literals) zeros.literals after.literals (literals_of i) clear.0 found.3 (omega (arith, spare.0, long)) in
           let right = filled_held 0 (length before.rows.numbers) zeros.numbers after.numbers (numbers_of i) clear.1 found.4 (omega (arith, spare.1, size)) in
           let held : after ≡ filled_with (literals_of i) (numbers_of i) before.rows =

@@ -1,5 +1,5 @@
 -- Proof lines as they are answered.
-use Rattle.std.specs.Prelude.{◌≡◌, ℕ, ◌≤◌, ◌≢◌, List, [], ◌++◌, length, drop, Some, None, Option}
+use Rattle.std.specs.Prelude.{◌≡◌, ℕ, ◌≢◌, List, [], ◌++◌, length}
 use Rattle.clauses.specs.Clauses.{Clause}
 use Rattle.proofgrammar.specs.Grammar.{Entry, line, strike, Proper, line_text}
 use Rattle.prooftext.specs.declared.item.Item.{Item}
@@ -21,9 +21,11 @@ abbrev pub numbers_of : Entry → List ℕ
 numbers_of (line n ls hs) = hs
 numbers_of (strike n ss) = ss
 
--- A proof line at a place of a text, read into rows, and the place of the next one; or none stands there.
-abbrev pub LineAt : List ℕ → ℕ → Rows → Rows → Option (Item × ℕ) → Type 0
-LineAt bytes at before after None = (i : Entry) (s : List ℕ) → Proper i → drop at bytes ≢ line_text i ++ s
-LineAt bytes at before after (Some r) =
-    (i : Entry) × Proper i × (answer_of i ≡ r.0) × Held before.literals after.literals (literals_of i)
-    × Held before.numbers after.numbers (numbers_of i) × (drop at bytes ≡ line_text i ++ drop r.1 bytes) × (r.1 ≤ length bytes)
+-- A proof line comes first, read into rows, and the rest is behind it; or none comes first.
+abbrev pub HasLine : List ℕ → Rows → Rows → Item → List ℕ → Type 0
+HasLine bytes before after item rest =
+    (i : Entry) × Proper i × (answer_of i ≡ item) × Held before.literals after.literals (literals_of i)
+    × Held before.numbers after.numbers (numbers_of i) × (bytes ≡ line_text i ++ rest)
+
+abbrev pub NoLine : List ℕ → Type 0
+NoLine bytes = (i : Entry) (s : List ℕ) → Proper i → bytes ≢ line_text i ++ s

@@ -1,5 +1,5 @@
--- A list at a place of a text, read into a row.
-use Rattle.std.specs.Prelude.{◌≡◌, ℕ, ◌≤◌, ◌≢◌, List, ◌∷◌, ◌++◌, length, drop, Some, None, Option}
+-- A list that a text begins with, read into a row.
+use Rattle.std.specs.Prelude.{◌≡◌, ℕ, ◌≤◌, ◌≢◌, List, ◌∷◌, ◌++◌, length, drop}
 use Rattle.std.specs.List.{AllByRecursion as AllOf}
 use Rattle.proofgrammar.specs.Grammar.{words}
 use Rattle.proofgrammar.specs.Parts.{Stops}
@@ -8,9 +8,10 @@ use Rattle.proofgrammar.specs.Parts.{Stops}
 abbrev pub Held : {X : Type 0} → List X → List X → List X → Type 0
 Held before after xs = length xs ≤ length before → after ≡ xs ++ drop (length xs) before
 
--- Words up to a 0, how many they are, and the place behind the 0; or no such list stands there.
-abbrev pub ListAt : {X : Type 0} → (X → List ℕ) → (X → Type 0) → List ℕ → ℕ → List X → List X → Option (ℕ × ℕ) → Type 0
-ListAt {X} text Good bytes at before after None = (xs : List X) (s : List ℕ) → AllOf Good xs → Stops s → drop at bytes ≢ words text xs ++ (48 ∷ s)
-ListAt {X} text Good bytes at before after (Some r) =
-    (xs : List X) × AllOf Good xs × (length xs ≡ r.0) × Held before after xs × Stops (drop r.1 bytes)
-    × (drop at bytes ≡ words text xs ++ (48 ∷ drop r.1 bytes))
+-- Words up to a 0 come first, so many, and the rest is behind the 0; or no such list comes first.
+abbrev pub HasList : {X : Type 0} → (X → List ℕ) → (X → Type 0) → List ℕ → List X → List X → ℕ → List ℕ → Type 0
+HasList {X} text Good bytes before after n rest =
+    (xs : List X) × AllOf Good xs × (length xs ≡ n) × Held before after xs × Stops rest × (bytes ≡ words text xs ++ (48 ∷ rest))
+
+abbrev pub NoList : {X : Type 0} → (X → List ℕ) → (X → Type 0) → List ℕ → Type 0
+NoList {X} text Good bytes = (xs : List X) (s : List ℕ) → AllOf Good xs → Stops s → bytes ≢ words text xs ++ (48 ∷ s)

@@ -1,27 +1,34 @@
--- The parts of a proof line at a place of a text, read into rows.
-use Rattle.std.specs.Prelude.{◌≡◌, ℕ, ◌≤◌, ◌≢◌, List, ◌∷◌, ◌++◌, length, drop, Some, None, Option}
+-- The parts of a proof line that a text begins with, read into rows.
+use Rattle.std.specs.Prelude.{◌≡◌, ℕ, ◌≢◌, List, ◌∷◌, ◌++◌, length}
 use Rattle.std.specs.List.{AllByRecursion as AllOf}
 use Rattle.clauses.specs.Clauses.{Clause}
 use Rattle.decimals.specs.Decimals.{text_of}
 use Rattle.proofgrammar.specs.Grammar.{Number, Literal}
 use Rattle.proofgrammar.specs.Parts.{line_body}
+use Rattle.prooftext.specs.declared.item.Item.{Item}
+use Rattle.prooftext.specs.declared.item.Item.TheVariants.{Line}
 use Rattle.prooftext.specs.Lists.{Held}
 use Rattle.prooftext.specs.Rows.{Rows}
 
--- the number of a line, and the place behind its space
-abbrev pub FrontAt : List ℕ → ℕ → Option (ℕ × ℕ) → Type 0
-FrontAt bytes at None = (n : ℕ) (s : List ℕ) → Number n → drop at bytes ≢ text_of n ++ (32 ∷ s)
-FrontAt bytes at (Some r) = Number r.0 × (drop at bytes ≡ text_of r.0 ++ (32 ∷ drop r.1 bytes))
+-- the number of a line, and the rest behind its space
+abbrev pub HasFront : List ℕ → ℕ → List ℕ → Type 0
+HasFront bytes n rest = Number n × (bytes ≡ text_of n ++ (32 ∷ rest))
 
--- numbers behind which the line ends, how many they are, and the place of the next line
-abbrev pub NumbersAt : (List ℕ → List ℕ → List ℕ) → List ℕ → ℕ → List ℕ → List ℕ → Option (ℕ × ℕ) → Type 0
-NumbersAt text bytes at before after None = (xs s : List ℕ) → AllOf Number xs → drop at bytes ≢ text xs s
-NumbersAt text bytes at before after (Some r) =
-    (xs : List ℕ) × AllOf Number xs × (length xs ≡ r.0) × Held before after xs × (drop at bytes ≡ text xs (drop r.1 bytes)) × (r.1 ≤ length bytes)
+abbrev pub NoFront : List ℕ → Type 0
+NoFront bytes = (n : ℕ) (s : List ℕ) → Number n → bytes ≢ text_of n ++ (32 ∷ s)
 
--- literals and hints, how many each are, and the place of the next line
-abbrev pub BodyAt : List ℕ → ℕ → Rows → Rows → Option (ℕ × ℕ × ℕ) → Type 0
-BodyAt bytes at before after None = (ls : Clause) (hs s : List ℕ) → AllOf Literal ls → AllOf Number hs → drop at bytes ≢ line_body ls hs s
-BodyAt bytes at before after (Some r) =
-    (ls : Clause) × (hs : List ℕ) × AllOf Literal ls × AllOf Number hs × (length ls ≡ r.0) × (length hs ≡ r.1) × Held before.literals after.literals ls
-    × Held before.numbers after.numbers hs × (drop at bytes ≡ line_body ls hs (drop r.2 bytes)) × (r.2 ≤ length bytes)
+-- numbers behind which the line ends, how many they are, and the lines behind it
+abbrev pub HasNumbers : (List ℕ → List ℕ → List ℕ) → List ℕ → List ℕ → List ℕ → ℕ → List ℕ → Type 0
+HasNumbers text bytes before after n rest = (xs : List ℕ) × AllOf Number xs × (length xs ≡ n) × Held before after xs × (bytes ≡ text xs rest)
+
+abbrev pub NoNumbers : (List ℕ → List ℕ → List ℕ) → List ℕ → Type 0
+NoNumbers text bytes = (xs s : List ℕ) → AllOf Number xs → bytes ≢ text xs s
+
+-- literals and hints of the clause n, what is answered of them, and the lines behind
+abbrev pub HasBody : ℕ → List ℕ → Rows → Rows → Item → List ℕ → Type 0
+HasBody n bytes before after item rest =
+    (ls : Clause) × (hs : List ℕ) × AllOf Literal ls × AllOf Number hs × (Line n (length ls) (length hs) ≡ item) × Held before.literals after.literals ls
+    × Held before.numbers after.numbers hs × (bytes ≡ line_body ls hs rest)
+
+abbrev pub NoBody : List ℕ → Type 0
+NoBody bytes = (ls : Clause) (hs s : List ℕ) → AllOf Literal ls → AllOf Number hs → bytes ≢ line_body ls hs s

@@ -1,88 +1,75 @@
+ghost use Rattle.std.specs.Prelude.{MatchOption};
 ghost use Rattle.proofgrammar.specs.Parts.{tail_text, strike_tail};
 ghost use Rattle.prooftext.specs.Rows.{rows};
-ghost use Rattle.prooftext.specs.Parts.{FrontAt, NumbersAt, BodyAt};
-ghost use Rattle.prooftext.specs.Items.{LineAt};
+ghost use Rattle.prooftext.specs.Parts.{NoFront, HasFront, NoNumbers, HasNumbers, NoBody, HasBody};
+ghost use Rattle.prooftext.specs.Items.{NoLine, HasLine};
 
 use crate::item::Item;
-use crate::lists::{read_literals, read_numbers};
-use proofwords::{read_number, stands};
+use crate::lists::read_list;
+use proofwords::{read_number, skip};
 
 /// Reads the number that begins a line, and its space.
-fn read_front(text: &[u8], start: usize) -> Option<(u32, usize)>
-    ensures { FrontAt text.now start result }
+fn read_front(text: &[u8]) -> Option<(u32, &[u8])>
+    ensures { MatchOption result (NoFront text.now) (λ r. HasFront text.now r.0 r.1.now) }
 {
-    let (number, end) = read_number(text, start)?;
-    if number == 0 {
-        return None;
+    match read_number(text)? {
+        (0, _) => None,
+        (number, rest) => Some((number, skip(rest, b' ')?)),
     }
-    if !stands(text, end, b' ') {
-        return None;
-    }
-    Some((number, end + 1))
 }
 
 /// Reads the last numbers of a line, and its end.
-fn read_tail(text: &[u8], start: usize, row: &mut [u32]) -> Option<(usize, usize)>
-    ensures { NumbersAt tail_text text.now start row.old row.new result }
+fn read_tail<'t>(text: &'t [u8], row: &mut [u32]) -> Option<(usize, &'t [u8])>
+    ensures { MatchOption result (NoNumbers tail_text text.now)
+        (λ r. HasNumbers tail_text text.now row.old row.new r.0 r.1.now) }
 {
-    let (count, end) = read_numbers(text, start, row)?;
-    if !stands(text, end, b'\n') {
-        return None;
-    }
-    Some((count, end + 1))
+    let (count, rest) = read_list(text, row)?;
+    Some((count, skip(rest, b'\n')?))
 }
 
 /// Reads what stands behind the `d` of a strike.
-fn read_strike(text: &[u8], start: usize, row: &mut [u32]) -> Option<(usize, usize)>
-    ensures { NumbersAt strike_tail text.now start row.old row.new result }
+fn read_strike<'t>(text: &'t [u8], row: &mut [u32]) -> Option<(usize, &'t [u8])>
+    ensures { MatchOption result (NoNumbers strike_tail text.now)
+        (λ r. HasNumbers strike_tail text.now row.old row.new r.0 r.1.now) }
 {
-    if !stands(text, start, b' ') {
-        return None;
-    }
-    read_tail(text, start + 1, row)
+    read_tail(skip(text, b' ')?, row)
 }
 
 /// Reads what stands behind the number of a clause: its literals and its hints.
-fn read_body(
-    text: &[u8],
-    start: usize,
+fn read_clause<'t>(
+    text: &'t [u8],
+    number: u32,
     literals: &mut [i32],
     numbers: &mut [u32],
-) -> Option<(usize, usize, usize)>
-    ensures { BodyAt text.now start
-        (rows literals.old numbers.old) (rows literals.new numbers.new) result }
+) -> Option<(Item, &'t [u8])>
+    ensures { MatchOption result (NoBody text.now)
+        (λ r. HasBody number text.now (rows literals.old numbers.old)
+        (rows literals.new numbers.new) r.0 r.1.now) }
 {
-    let (count, end) = read_literals(text, start, literals)?;
-    if !stands(text, end, b' ') {
-        return None;
-    }
-    let (hints, next) = read_tail(text, end + 1, numbers)?;
-    Some((count, hints, next))
+    let (count, rest) = read_list(text, literals)?;
+    let (hints, rest) = read_tail(skip(rest, b' ')?, numbers)?;
+    let item = Item::Line {
+        number,
+        literals: count,
+        hints,
+    };
+    Some((item, rest))
 }
 
-/// Reads a proof line into the rows: what it is, and the place of the next line. What a row has no room for is only
-/// counted.
-pub(crate) fn read_line(
-    text: &[u8],
-    start: usize,
+/// Reads a proof line into the rows: what it is, and the text behind it. What a row has no room for is only counted.
+pub(crate) fn read_line<'t>(
+    text: &'t [u8],
     literals: &mut [i32],
     numbers: &mut [u32],
-) -> Option<(Item, usize)>
-    ensures { LineAt text.now start
-        (rows literals.old numbers.old) (rows literals.new numbers.new) result }
+) -> Option<(Item, &'t [u8])>
+    ensures { MatchOption result (NoLine text.now)
+        (λ r. HasLine text.now (rows literals.old numbers.old)
+        (rows literals.new numbers.new) r.0 r.1.now) }
 {
-    let (number, at) = read_front(text, start)?;
-    if stands(text, at, b'd') {
-        let (count, next) = read_strike(text, at + 1, numbers)?;
-        return Some((Item::Strike { count }, next));
-    }
-    let (count, hints, next) = read_body(text, at, literals, numbers)?;
-    Some((
-        Item::Line {
-            number,
-            literals: count,
-            hints,
-        },
-        next,
-    ))
+    let (number, rest) = read_front(text)?;
+    let Some(tail) = skip(rest, b'd') else {
+        return read_clause(rest, number, literals, numbers);
+    };
+    let (count, rest) = read_strike(tail, numbers)?;
+    Some((Item::Strike { count }, rest))
 }

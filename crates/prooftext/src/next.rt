@@ -50,7 +50,7 @@ impl Reader<'_> {
         if place >= self.text.len() {
             return Ok(Item::End);
         }
-        let Some((item, next)) = read_line(self.text, place, literals, numbers) else {
+        let Some((item, rest)) = read_line(&self.text[place..], literals, numbers) else {
             clear(literals, numbers);
             return Err(Refusal::Text);
         };
@@ -58,7 +58,7 @@ impl Reader<'_> {
             clear(literals, numbers);
             return Err(Refusal::Buffer);
         }
-        self.place = next;
+        self.place = self.text.len() - rest.len();
         Ok(item)
     }
 }

@@ -4,4 +4,4 @@
 
 pub mod words;
 
-pub use words::{read_literal, read_number, stands};
+pub use words::{read_literal, read_number, skip, stands};

@@ -1,12 +1,10 @@
-use Rattle.proofwords.proofs.Places.{lone_minus, minus_zero}
+use Rattle.std.proofs.Common.{arith}
+use Rattle.proofwords.proofs.Digits.{lone_minus, minus_zero}
 use Rattle.proofwords.proofs.words.read_literal.Goals as goal
 
-pub returns-in_err-value : goal.returns-in_err-value
-returns-in_err-value c =
-    rw c.from_residual.ensures (lone_minus c.args.text.now c.args.start c.if-stands.ensures.1 c.in_err-value.ensures)
+pub returns-in_err-read_number : goal.returns-in_err-read_number
+returns-in_err-read_number c =
+    rw c.from_residual-in_err-read_number.ensures (lone_minus c.args.text.now c.in-Some.digits.now c.in-Some.ensures c.in_err-read_number.ensures)
 
-pub returns-then-value-eq0 : goal.returns-then-value-eq0
-returns-then-value-eq0 c =
-    let number = c.in_ok-value.ensures in
-    minus_zero c.args.text.now c.args.start c.if-stands.ensures.1 c.in_ok-value.value c.in_ok-value.end
-    c.if-value-eq0.true number.1 number.2
+pub returns-in-0-default : goal.returns-in-0-default
+returns-in-0-default c = minus_zero c.args.text.now c.in-Some.digits.now c.in-Some.ensures _ _ (omega arith) c.in_ok-read_number.ensures
