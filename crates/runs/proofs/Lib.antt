@@ -1,4 +1,3 @@
-mod Faulty
 mod Telling
 mod Cutting
 mod Reading

@@ -1,9 +1,8 @@
 ghost use Rattle.std.specs.Prelude.{◌≡◌, length, IfOk, string_bytes};
 ghost use Rattle.gates.specs.Gates.{is_register, rank};
 ghost use Rattle.boards.specs.Sheets.{sheet};
-ghost use Rattle.runs.specs.Text.{letter as letter_of, board_line, frame_line, verdict_line};
+ghost use Rattle.runs.specs.Text.{letter as letter_of, board_line, frame_line};
 
-use crate::trace::Verdict;
 use boards::Board;
 use std::alloc::{AllocError, Global};
 use values::Value;
@@ -38,14 +37,4 @@ pub fn tell_frame(heap: Global, number: usize, values: &[Value]) -> Result<Strin
         line.push(letter(*value))?;
     }
     Ok(line)
-}
-
-/// `bad 1 3` or `good 2`.
-pub fn tell_verdict(heap: Global, verdict: Verdict) -> Result<String, AllocError>
-    ensures { IfOk result (λ t. string_bytes t ≡ verdict_line verdict) }
-{
-    match verdict {
-        Verdict::Bad { frame, wire } => format!(in heap; "bad {frame} {wire}"),
-        Verdict::Good { frames } => format!(in heap; "good {frames}"),
-    }
 }
