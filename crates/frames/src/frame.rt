@@ -1,10 +1,9 @@
-ghost use Rattle.std.specs.Prelude.{◌≡◌, ◌≤◌, true, not, length, replicate, IfOk, None};
+ghost use Rattle.std.specs.Prelude.{◌≡◌, ◌≤◌, not, length, replicate, IfOk, None};
 ghost use Rattle.std.specs.Option.{option_map};
-ghost use Rattle.gates.specs.Gates.{named};
 ghost use Rattle.boards.specs.Sheets.{sheet};
 ghost use Rattle.solutions.specs.Solutions.{reads, wanted as wanted_of, supplied, frame_before, Least};
 ghost use Rattle.solutions.specs.Rounds.{round, same_row, most_rounds, frame_rounds, frame_row};
-ghost use Rattle.frames.specs.Frames.{frame_given, long_before, frame_answer, row_after};
+ghost use Rattle.frames.specs.Frames.{frame_given, enough, frame_answer, row_after};
 
 use boards::Board;
 use gates::Gate;
@@ -15,11 +14,7 @@ use values::ValueKind;
 fn at<V: ValueKind>(row: &[V], wire: usize) -> V
     ensures { result ≡ reads V.ValueKind.meaning row.now wire }
 {
-    if wire < row.len() {
-        row[wire]
-    } else {
-        V::undefined()
-    }
+    row.get(wire).copied().unwrap_or(V::undefined())
 }
 
 /// The value that a wire should have; `given` is what an input or a register is given.
@@ -39,96 +34,103 @@ fn wanted<V: ValueKind>(gate: Gate, given: V, row: &[V]) -> V
     }
 }
 
-/// The value of a wire in the frame before; before the first frame every wire reads 0.
-fn at_before<V: ValueKind>(before: Option<&[V]>, wire: usize) -> V
-    ensures { result ≡ frame_before V.ValueKind.meaning (option_map (λ x. x.now) before.entry) wire }
-{
-    match before {
-        None => V::zero(),
-        Some(row) => at(row, wire),
-    }
-}
-
-/// What a wire is given: an input its value of the row of inputs, a register its source's value in the frame before.
-fn supply<V: ValueKind>(gate: Gate, inputs: &[V], rank: usize, before: Option<&[V]>) -> V
-    ensures { result ≡ supplied V.ValueKind.meaning gate (reads V.ValueKind.meaning inputs.now rank) (frame_before V.ValueKind.meaning (option_map (λ x. x.now) before.entry)) }
-{
-    match gate {
-        Gate::Input => at(inputs, rank),
-        Gate::Register(y) => at_before(before, y as usize),
-        _ => V::undefined(),
-    }
-}
-
-/// One round: every wire in rising order, in place. Answers whether a value changed.
-fn sweep<V: ValueKind>(gates: &[Gate], inputs: &[V], before: Option<&[V]>, row: &mut [V]) -> bool
-    requires { length row.old ≡ length gates.now }
-    ensures answer { not result ≡ same_row V.ValueKind.meaning row.old row.new }
-    ensures after { row.new ≡ round V.ValueKind.meaning gates.now (frame_given V.ValueKind.meaning gates.now inputs.now (option_map (λ x. x.now) before.entry)) (length gates.now) row.old }
-{
-    let mut changed = false;
-    let mut rank = 0;
-    'wires: for wire in 0..gates.len() {
-        let gate = gates[wire];
-        let value = wanted(gate, supply(gate, inputs, rank, before), row);
-        changed = changed | !row[wire].same(value);
-        row[wire] = value;
-        if gate.is_input() {
-            rank += 1;
-        }
-    }
-    changed
-}
-
 /// Makes every value of the row undefined.
 fn clear<V: ValueKind>(row: &mut [V])
     ensures { row.new ≡ replicate (length row.old) V.ValueKind.meaning.undefined }
 {
+    // By a loop: `fill` clones, and a kind says nothing of what a clone is.
     for value in row.iter_mut() {
         *value = V::undefined();
     }
 }
 
-/// Rounds from all undefined until one changes nothing. Answers how many there were, that one counted.
-fn settle<V: ValueKind>(gates: &[Gate], inputs: &[V], before: Option<&[V]>, row: &mut [V]) -> usize
-    requires size { length row.old ≡ length gates.now }
-    requires few { length gates.now ≤ 256 }
-    requires own { named (length gates.now) gates.now ≡ true }
-    ensures answer { result ≡ frame_rounds V.ValueKind.meaning gates.now (frame_given V.ValueKind.meaning gates.now inputs.now (option_map (λ x. x.now) before.entry)) }
-    ensures after { row.new ≡ frame_row V.ValueKind.meaning gates.now (frame_given V.ValueKind.meaning gates.now inputs.now (option_map (λ x. x.now) before.entry)) }
-{
-    clear(row);
-    let mut rounds = 0;
-    'rounds: loop {
-        rounds += 1;
-        if !sweep(gates, inputs, before, row) {
-            return rounds;
+/// What a frame is found from: the board, a row of inputs, and the frame before, if there is one.
+#[derive(Clone, Copy)]
+struct Given<'a, V> {
+    board: &'a Board,
+    inputs: &'a [V],
+    before: Option<&'a [V]>,
+}
+
+impl<V: ValueKind> Given<'_, V> {
+    ghost use Rattle.frames.specs.Given.{gates_of, before_of, given_of};
+
+    /// Whether there are values for all inputs, for all wires of the frame before, if there is one, and for all of the row to fill.
+    fn is_enough(&self, row: &[V]) -> bool
+        ensures { result ≡ enough (gates_of self.now) self.now.inputs.now (before_of self.now) row.now }
+    {
+        let wires = self.board.wires();
+        self.board.inputs() <= self.inputs.len()
+            && self.before.is_none_or(|before| wires <= before.len())
+            && wires <= row.len()
+    }
+
+    /// The value of a wire in the frame before; before the first frame every wire reads 0.
+    fn at_before(&self, wire: usize) -> V
+        ensures { result ≡ frame_before V.ValueKind.meaning (before_of self.now) wire }
+    {
+        self.before.map_or(V::zero(), |before| at(before, wire))
+    }
+
+    /// What a wire is given: an input its value of the row of inputs, a register its source's value in the frame before.
+    fn supply(&self, gate: Gate, rank: usize) -> V
+        ensures { result ≡ supplied V.ValueKind.meaning gate (reads V.ValueKind.meaning self.now.inputs.now rank) (frame_before V.ValueKind.meaning (before_of self.now)) }
+    {
+        match gate {
+            Gate::Input => at(self.inputs, rank),
+            Gate::Register(y) => self.at_before(y as usize),
+            _ => V::undefined(),
         }
     }
-}
 
-/// Whether the frame before, if there is one, has a value for each wire.
-fn is_long<V: ValueKind>(before: Option<&[V]>, wires: usize) -> bool
-    ensures { result ≡ long_before wires (option_map (λ x. x.now) before.entry) }
-{
-    match before {
-        None => true,
-        Some(row) => wires <= row.len(),
+    /// One round: every wire in rising order, in place. Answers whether a value changed.
+    fn sweep(&self, row: &mut [V]) -> bool
+        requires { length row.old ≡ length (gates_of self.now) }
+        ensures answer { not result ≡ same_row V.ValueKind.meaning row.old row.new }
+        ensures after { row.new ≡ round V.ValueKind.meaning (gates_of self.now) (given_of V.ValueKind.meaning self.now) (length (gates_of self.now)) row.old }
+    {
+        let mut changed = false;
+        let mut rank = 0;
+        for (wire, gate) in self.board.gates().iter().enumerate() {
+            // By index: a wire's value is read off the whole row, and written to one place of it.
+            let value = wanted(*gate, self.supply(*gate, rank), row);
+            changed |= row[wire] != value;
+            row[wire] = value;
+            if gate.is_input() {
+                rank += 1;
+            }
+        }
+        changed
+    }
+
+    /// Rounds from all undefined until one changes nothing. Answers how many there were, that one counted.
+    fn settle(&self, row: &mut [V]) -> usize
+        requires { length row.old ≡ length (gates_of self.now) }
+        ensures answer { result ≡ frame_rounds V.ValueKind.meaning (gates_of self.now) (given_of V.ValueKind.meaning self.now) }
+        ensures after { row.new ≡ frame_row V.ValueKind.meaning (gates_of self.now) (given_of V.ValueKind.meaning self.now) }
+    {
+        clear(row);
+        let mut rounds = 1;
+        while self.sweep(row) {
+            rounds += 1;
+        }
+        rounds
     }
 }
 
-/// No frame before: what the first frame is found from.
+/// No frame before: what the first frame is found from. A caller that is generic in the kind needs it, since there a literal `None`
+/// has no proof as an argument.
 pub fn no_frame<'a, V>() -> Option<&'a [V]>
     ensures { result ≡ None }
 {
-    Option::None
+    None
 }
 
 /// Fills the row's start with the values of one frame, the least solution of the board's wires, and answers how many
 /// rounds it took, the last one, which changes nothing, counted.
 ///
-/// `inputs` has a value for each input, in rising wire order; `before` is the frame before, `no_frame()` for the first. A buffer
-/// that is shorter than needed is refused, and the row is then as it was.
+/// `inputs` has a value for each input, in rising wire order; `before` is the frame before, `None` for the first. A buffer that is
+/// shorter than needed is refused, and the row is then as it was.
 pub fn find_frame<V: ValueKind>(
     board: &Board,
     inputs: &[V],
@@ -140,9 +142,13 @@ pub fn find_frame<V: ValueKind>(
     ensures least { IfOk result (λ k. Least V.ValueKind.meaning (sheet board.now).gates (frame_given V.ValueKind.meaning (sheet board.now).gates inputs.now (option_map (λ x. x.now) before.entry)) (reads V.ValueKind.meaning row.new)) }
     ensures bound { IfOk result (λ k. k ≤ most_rounds V.ValueKind.meaning (sheet board.now).gates) }
 {
-    let wires = board.wires();
-    if inputs.len() < board.inputs() || !is_long(before, wires) || row.len() < wires {
+    let given = Given {
+        board,
+        inputs,
+        before,
+    };
+    if !given.is_enough(row) {
         return Err(Refusal::Buffer);
     }
-    Ok(settle(board.gates(), inputs, before, &mut row[0..wires]))
+    Ok(given.settle(&mut row[..board.wires()]))
 }

@@ -52,6 +52,12 @@ alike One Undefined = false
 alike One Zero = false
 alike One One = true
 
+-- how a value is written: U, 0 or 1
+abbrev pub letter : Value → ℕ
+letter Undefined = 85
+letter Zero = 48
+letter One = 49
+
 abbrev pub single : Kind Value
 single = record {
   undefined = Undefined;

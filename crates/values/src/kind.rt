@@ -1,19 +1,18 @@
-ghost use Rattle.std.specs.Prelude.{◌≡◌};
+ghost use Rattle.std.specs.Prelude.{◌≡◌, ℕ};
 ghost use Rattle.values.specs.Kinds.{Kind, Lawful};
 
 /// A kind of value that a wire can have: an undefined value, 0 and 1, five gates, an order and ranks.
 ///
 /// The laws make the rounds of a frame end in the least solution.
-pub trait ValueKind: Copy {
+pub trait ValueKind: Copy + PartialEq {
     /// No rank is larger.
     const HEIGHT: usize;
 
+    // the constant, as the laws name it
+    ghost HEIGHT: { ℕ };
+
     // the values, gates, order and ranks that the functions below answer by
     ghost meaning: { Kind Self };
-
-    /// The height again, as a clause can name it.
-    fn top_rank() -> usize
-        ensures { result ≡ meaning.height };
 
     fn undefined() -> Self
         ensures { result ≡ meaning.undefined };
@@ -39,9 +38,10 @@ pub trait ValueKind: Copy {
     fn xor(self, other: Self) -> Self
         ensures { result ≡ meaning.xor self other };
 
-    /// Whether two values are equal.
-    fn same(self, other: Self) -> bool
-        ensures { result ≡ meaning.same self other };
+    ghost height_agrees: { HEIGHT ≡ meaning.height };
+
+    // `==` is the kind's test for equality
+    ghost eq_agrees: { (x y : Self) → Self.eq x y ≡ meaning.same x y };
 
     ghost lawful: { Lawful meaning };
 }

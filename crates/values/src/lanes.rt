@@ -5,7 +5,7 @@ pub mod kind;
 /// 64 single values side by side, on two words.
 ///
 /// Bit k of `zeros` is rail 0 of lane k, and bit k of `ones` is its rail 1. No lane has both rails up.
-#[derive(Clone, Copy)]
+#[derive(Clone, Copy, PartialEq, Eq, Debug)]
 pub struct Lanes {
     zeros: u64,
     ones: u64,

@@ -1,7 +1,9 @@
-ghost use Rattle.values.specs.Single.{single};
+ghost use Rattle.std.specs.Prelude.{[], ◌∷◌, Some, refl};
+ghost use Rattle.values.specs.Single.{single, letter};
 ghost use Rattle.values.specs.Singles.{single_lawful};
 
 use crate::kind::ValueKind;
+use std::fmt;
 
 /// What a wire is in one frame.
 #[derive(Clone, Copy, PartialEq, Eq, Debug)]
@@ -12,15 +14,23 @@ pub enum Value {
 }
 
 impl ValueKind for Value {
+    ghost use Rattle.values.specs.declared.single.Value.TheVariants.{Undefined, Zero, One};
+
     const HEIGHT: usize = 1;
+
+    ghost HEIGHT = { 1 };
 
     ghost meaning = { single };
 
-    ghost lawful = { single_lawful };
+    ghost height_agrees = { refl };
 
-    fn top_rank() -> usize {
-        Self::HEIGHT
-    }
+    ghost eq_agrees = { elim [
+      | Undefined ↦ elim [ Undefined ↦ refl | Zero ↦ refl | One ↦ refl ]
+      | Zero ↦ elim [ Undefined ↦ refl | Zero ↦ refl | One ↦ refl ]
+      | One ↦ elim [ Undefined ↦ refl | Zero ↦ refl | One ↦ refl ]
+    ] };
+
+    ghost lawful = { single_lawful };
 
     fn undefined() -> Value {
         Value::Undefined
@@ -73,8 +83,17 @@ impl ValueKind for Value {
             _ => Value::One,
         }
     }
+}
 
-    fn same(self, other: Value) -> bool {
-        self == other
+/// A letter: `U`, `0` or `1`.
+impl fmt::Display for Value {
+    ghost output = { λ value. Some (letter value ∷ []) };
+
+    fn fmt<W: fmt::Write>(&self, f: &mut fmt::Formatter<W>) -> fmt::Result {
+        f.write_str(match self {
+            Value::Undefined => "U",
+            Value::Zero => "0",
+            Value::One => "1",
+        })
     }
 }

@@ -1,4 +1,4 @@
-ghost use Rattle.std.specs.Prelude.{◌≡◌};
+ghost use Rattle.std.specs.Prelude.{◌≡◌, refl};
 ghost use Rattle.values.specs.Words.{bit};
 ghost use Rattle.values.specs.Lanes.{lane, read, by_lane, lanes, Lanewise};
 ghost use Rattle.values.specs.LaneLaws.{lanes_lawful};
@@ -72,13 +72,15 @@ impl Lanes {
 impl ValueKind for Lanes {
     const HEIGHT: usize = 64;
 
+    ghost HEIGHT = { 64 };
+
     ghost meaning = { lanes };
 
-    ghost lawful = { lanes_lawful };
+    ghost height_agrees = { refl };
 
-    fn top_rank() -> usize {
-        Self::HEIGHT
-    }
+    ghost eq_agrees = { λ _ _. refl };
+
+    ghost lawful = { lanes_lawful };
 
     fn undefined() -> Lanes {
         Lanes::splat(Value::Undefined)
@@ -126,15 +128,9 @@ impl ValueKind for Lanes {
             ones: (self.zeros & other.ones) | (self.ones & other.zeros),
         }
     }
-
-    fn same(self, other: Lanes) -> bool {
-        (self.zeros == other.zeros) && (self.ones == other.ones)
-    }
 }
 
 /// The lane kind is 64 copies of the single kind: in each lane the undefined value, 0, 1 and each gate are the single kind's, the order is the single kind's in every lane, the rank is the number of defined lanes, and lanes that agree in each of the 64 places are equal.
-pub fn lanes_are_single() -> u8
+pub fn lanes_are_single()
     ensures { Lanewise }
-{
-    0
-}
+{}
