@@ -1,4 +1,3 @@
-mod Telling
 mod Cutting
 mod Reading
 mod Running
