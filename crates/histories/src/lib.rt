@@ -6,15 +6,12 @@
 
 ghost use Rattle.histories.specs.Law.{LawStands, RefusalsChangeNothing, CallsGoOn};
 
-use refusals::Refusal;
-
-/// What a call is answered.
+/// What a call that is not refused is answered.
 #[derive(Clone, Copy, PartialEq, Eq, Debug)]
-pub enum Answer {
+pub enum Reply {
     Accepted,
     /// A show: the first bad frame, counted from 1, and its lowest undefined wire, or else the property wire.
     Shown { frame: usize, wire: usize },
-    Refused(Refusal),
 }
 
 /// The law of a case, for every shelf and every list of calls.
