@@ -49,11 +49,11 @@ gate_recorded : (bytes : List ℕ) (g : Gate) → gate_in bytes ≡ Some g → r
 gate_recorded bytes g e = sym (subst (Recorded bytes) e (recorded bytes))
 
 -- what a call does to the board and to whether it is closed
-pub record Draws (s : State) (recordsOf : List (List ℕ)) (closesOf : List (ℕ × ℕ)) (end : State) : Type 0 where
-  pub gates : map record_of end.board.gates ≡ map record_of s.board.gates ++ recordsOf
-  pub stays : s.stage ≢ stage.Draw → (closesOf ≡ []) × (end.board ≡ s.board) × (end.stage ≢ stage.Draw)
-  pub drawing : s.stage ≡ stage.Draw → end.stage ≡ stage.Draw → closesOf ≡ []
-  pub closing_once : s.stage ≡ stage.Draw → end.stage ≢ stage.Draw → closesOf ≡ (end.board.property, end.board.depth) ∷ []
+pub record Draws (s : State) (records_of : List (List ℕ)) (closes_of : List (ℕ × ℕ)) (end : State) : Type 0 where
+  pub gates : map record_of end.board.gates ≡ map record_of s.board.gates ++ records_of
+  pub stays : s.stage ≢ stage.Draw → (closes_of ≡ []) × (end.board ≡ s.board) × (end.stage ≢ stage.Draw)
+  pub drawing : s.stage ≡ stage.Draw → end.stage ≡ stage.Draw → closes_of ≡ []
+  pub closing_once : s.stage ≡ stage.Draw → end.stage ≢ stage.Draw → closes_of ≡ (end.board.property, end.board.depth) ∷ []
   pub closed_now : s.stage ≡ stage.Draw → end.stage ≢ stage.Draw → closing end.board ≡ None
 
 -- nothing is drawn, and the board stays

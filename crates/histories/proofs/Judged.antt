@@ -12,7 +12,7 @@ use Rattle.hints.specs.Hints.{Verdict}
 use Rattle.refuting.specs.Judging.{progress, Judged, judge_line, judge_strike}
 use Rattle.stages.specs.declared.Stage.{Stage}
 use Rattle.stages.specs.Stages.{after}
-use Rattle.histories.specs.declared.Answer.TheVariants.{Accepted, Shown, Refused}
+use Rattle.histories.specs.declared.Reply.TheVariants.{Accepted, Shown}
 use Rattle.histories.specs.Shown.{all_bits, valuation, satisfies, shown_run, first_bad}
 use Rattle.histories.specs.Cases.{State, state, Room, terms_at, Call, add, close, line, strike, pass, show, event_of, Outcome, test, judge_add, by_closing, judge_close, by_verdict, judge_item, judge_pass, judge_show, judge_call, by_stage, judge}
 use Rattle.histories.specs.Law.{taken}
@@ -21,19 +21,19 @@ use Rattle.histories.specs.Law.{taken}
 abbrev pub show_end : State → Stage → List ℕ → Outcome
 show_end s t bytes =
     let bad = first_bad s.board.gates s.board.property s.board.depth (shown_run s.board.gates s.board.depth bytes) in
-    (Shown bad.0 bad.1, state s.board t s.progress)
+    (Ok (Shown bad.0 bad.1), state s.board t s.progress)
 
 -- a line or a strike is taken
 abbrev pub ItemTaken : State → Stage → Judged → Outcome → Type 0
-ItemTaken s t j r = (j.0 ≡ Ok tt) × (r ≡ (Accepted, state s.board t j.1))
+ItemTaken s t j r = (j.0 ≡ Ok tt) × (r ≡ (Ok Accepted, state s.board t j.1))
 
 abbrev pub Accepts : Room → State → Stage → Call → Outcome → Type 0
 Accepts room s t (add bytes) r =
     (g : Gate) × (gate_in bytes ≡ Some g)
-    × (r ≡ (Accepted, state (sheet_of (s.board.gates ++ g ∷ []) s.board.property s.board.depth) t s.progress))
+    × (r ≡ (Ok Accepted, state (sheet_of (s.board.gates ++ g ∷ []) s.board.property s.board.depth) t s.progress))
 Accepts room s t (close p d) r =
     let board = sheet_of s.board.gates p d in
-    (closing board ≡ None) × (r ≡ (Accepted, state board t (progress (length (formula_clauses kind.Base board)) s.progress.lines)))
+    (closing board ≡ None) × (r ≡ (Ok Accepted, state board t (progress (length (formula_clauses kind.Base board)) s.progress.lines)))
 Accepts room s t (line marks n ls hints) r = ItemTaken s t (judge_line (terms_at room s) s.progress marks n ls hints) r
 Accepts room s t (strike n) r = ItemTaken s t (judge_strike (terms_at room s) s.progress n) r
 Accepts room s t pass r = r ≡ judge_pass s t
@@ -41,9 +41,9 @@ Accepts room s t (show work bytes) r =
     (satisfies (valuation bytes) (formula_clauses kind.Base s.board) ≡ true) × (r ≡ show_end s t bytes)
 
 abbrev pub Refuses : State → Outcome → Type 0
-Refuses s r = (e : Refusal) × (r ≡ (Refused e, s))
+Refuses s r = (e : Refusal) × (r ≡ (Err e, s))
 
-tested : (P : Outcome → Type 0) (b : Bool) (e : Refusal) (s : State) (next : Outcome) → P (Refused e, s) → (b ≡ true → P next) → P (test b e s next)
+tested : (P : Outcome → Type 0) (b : Bool) (e : Refusal) (s : State) (next : Outcome) → P (Err e, s) → (b ≡ true → P next) → P (test b e s next)
 tested P true e s next stop goes = goes refl
 tested P false e s next stop goes = stop
 
@@ -55,15 +55,15 @@ module _ (room : Room) (s : State) (t : Stage) where
       gs = s.board.gates
 
       next : Gate → Outcome
-      next g = (Accepted, state (sheet_of (s.board.gates ++ g ∷ []) s.board.property s.board.depth) t s.progress)
+      next g = (Ok Accepted, state (sheet_of (s.board.gates ++ g ∷ []) s.board.property s.board.depth) t s.progress)
 
       room_for : (g : Gate) → gate_in bytes ≡ Some g → (b : Bool)
-          → Refuses s (mathlib.Core.Bool.cond b (next g) (Refused refusal.Full, s)) ⊎ Accepts room s t (add bytes) (mathlib.Core.Bool.cond b (next g) (Refused refusal.Full, s))
+          → Refuses s (mathlib.Core.Bool.cond b (next g) (Err refusal.Full, s)) ⊎ Accepts room s t (add bytes) (mathlib.Core.Bool.cond b (next g) (Err refusal.Full, s))
       room_for g e true = inr (g, e, refl)
       room_for g e false = inl (refusal.Full, refl)
 
       go : (o : Option Gate) → gate_in bytes ≡ o
-          → Refuses s (add_gate gs o next (λ e. (Refused e, s))) ⊎ Accepts room s t (add bytes) (add_gate gs o next (λ e. (Refused e, s)))
+          → Refuses s (add_gate gs o next (λ e. (Err e, s))) ⊎ Accepts room s t (add bytes) (add_gate gs o next (λ e. (Err e, s)))
       go None e = inl (refusal.Record, refl)
       go (Some g) e = room_for g e (ltb (length gs) 256)
 

@@ -9,7 +9,7 @@ use Rattle.acceptance.specs.Judged.{judge_items, offered as offered_items, AllAc
 use Rattle.stages.specs.declared.Event.TheVariants as event
 use Rattle.stages.specs.declared.Stage.{Stage}
 use Rattle.stages.specs.Stages.{after}
-use Rattle.histories.specs.declared.Answer.TheVariants.{Accepted}
+use Rattle.histories.specs.declared.Reply.TheVariants.{Accepted}
 use Rattle.histories.specs.Cases.{State, state, Room, formula_terms, kind_at, Call, line, strike, by_verdict, judge_item, by_stage, judge, calls_from}
 use Rattle.histories.specs.Law.{offered, TakenWhole}
 
@@ -28,11 +28,11 @@ refutes_ends V C (item_line n [] hints ∷ []) clauses last r = tt
 refutes_ends V C (item_line n [] hints ∷ (item ∷ items)) clauses last r = absurd r
 refutes_ends V C (item_line n (l ∷ ls) hints ∷ items) clauses last r = refutes_ends V C items _ n r.1
 
-one_taken : (room : Room) (s t : State) (c : Call) (calls : List Call) (end : Stage) → judge room s c ≡ (Accepted, t) → TakenWhole room t calls end → TakenWhole room s (c ∷ calls) end
+one_taken : (room : Room) (s t : State) (c : Call) (calls : List Call) (end : Stage) → judge room s c ≡ (Ok Accepted, t) → TakenWhole room t calls end → TakenWhole room s (c ∷ calls) end
 one_taken room s t c calls end e h =
-    subst (λ r. AllOf (λ a. a ≡ Accepted) (r.0 ∷ (calls_from room r.1 calls).0) × ((calls_from room r.1 calls).1.stage ≡ end)) (sym e) ((refl, h.0), h.1)
+    subst (λ r. AllOf (λ a. a ≡ Ok Accepted) (r.0 ∷ (calls_from room r.1 calls).0) × ((calls_from room r.1 calls).1.stage ≡ end)) (sym e) ((refl, h.0), h.1)
 
-item_accepted : (s : State) (t : Stage) (j : Judged) → j.0 ≡ Ok tt → judge_item s t j ≡ (Accepted, state s.board t j.1)
+item_accepted : (s : State) (t : Stage) (j : Judged) → j.0 ≡ Ok tt → judge_item s t j ≡ (Ok Accepted, state s.board t j.1)
 item_accepted s t j e = ap (λ v. by_verdict v s (state s.board t j.1)) e
 
 -- a stage at which a formula is refuted, and where the empty line leads

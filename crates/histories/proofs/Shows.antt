@@ -1,5 +1,5 @@
 -- An accepted show shows a bad run.
-use Rattle.std.proofs.Common.{◌≡◌, ℕ, true, ◌≢◌, ◌⊎◌, List, [], ◌∷◌, None, sym, refl, ap, ◌∙◌, subst, inl, inr, ⊎_elim}
+use Rattle.std.proofs.Common.{◌≡◌, ℕ, true, ◌≢◌, ◌⊎◌, List, [], ◌∷◌, None, Ok, sym, refl, ap, ◌∙◌, subst, inl, inr, ⊎_elim}
 use Rattle.std.proofs.lemmas.Bool.{and_parts}
 use Rattle.boards.specs.Sheets.{Sheet, closing}
 use Rattle.clauses.specs.Clauses.{Clause, Valuation, Satisfies}
@@ -8,10 +8,9 @@ use Rattle.induction.proofs.BaseTo.{base_shows}
 use Rattle.stages.specs.declared.Stage.{Stage}
 use Rattle.stages.specs.declared.Stage.TheVariants as stage
 use Rattle.stages.specs.Stages.{after}
-use Rattle.histories.specs.declared.Answer.{Answer}
-use Rattle.histories.specs.declared.Answer.TheVariants.{Shown}
+use Rattle.histories.specs.declared.Reply.TheVariants.{Shown}
 use Rattle.histories.specs.Shown.{valuation, satisfies, shown_run, first_bad}
-use Rattle.histories.specs.Cases.{State, Room, Call, add, close, line, strike, pass, show, event_of, Outcome, judge_call, by_stage, judge, calls_from}
+use Rattle.histories.specs.Cases.{Answer, State, Room, Call, add, close, line, strike, pass, show, event_of, Outcome, judge_call, by_stage, judge, calls_from}
 use Rattle.histories.specs.Law.{taken, ShowTaken, ShowsBad}
 use Rattle.histories.proofs.ShownRuns.{first_is_bad}
 use Rattle.histories.proofs.Judged.{judged, accepted_leads, TakesCall}
@@ -47,7 +46,7 @@ stays room (c ∷ calls) s e =
 abbrev pub Closes : State → Type 0
 Closes s = s.stage ≢ stage.Draw → closing s.board ≡ None
 
-show_facts : (room : Room) (s : State) → Closes s → (work : ℕ) (bytes : List ℕ) (k w : ℕ) → (judge room s (show work bytes)).0 ≡ Shown k w
+show_facts : (room : Room) (s : State) → Closes s → (work : ℕ) (bytes : List ℕ) (k w : ℕ) → (judge room s (show work bytes)).0 ≡ Ok (Shown k w)
     → ((judge room s (show work bytes)).1.stage ≡ stage.Shown) × ShowsBad (judge room s (show work bytes)).1.board bytes k w
 show_facts room s closes work bytes k w e =
     let a = accepted_leads room s (show work bytes) (ap taken e) in
@@ -55,7 +54,7 @@ show_facts room s closes work bytes k w e =
     let is = a.2.1 in
     let b = s.board in
     let bad = first_bad b.gates b.property b.depth (shown_run b.gates b.depth bytes) in
-    let same : Shown bad.0 bad.1 ≡ Shown k w = sym (ap (λ z. z.0) is) ∙ e in
+    let same : Ok (Shown bad.0 bad.1) ≡ Ok (Shown k w) = sym (ap (λ z. z.0) is) ∙ e in
     let at-k : bad.0 ≡ k = cc same in
     let at-w : bad.1 ≡ w = cc same in
     let facts = shows_first b (closed_is b (closes (λ d. base_drawn (sym at.0 ∙ d)))) bytes a.2.0 in
@@ -70,14 +69,14 @@ module _ (room : Room) (keeps : (s : State) (c : Call) → Closes s → Closes (
   shows [] s inv bytes k w t = absurd t
   shows (c ∷ calls) s inv bytes k w (inr t) = shows calls (judge room s c).1 (keeps s c inv) bytes k w t
   shows (c ∷ calls) s inv bytes k w (inl t) =
-      let f = subst (λ x. (judge room s x).0 ≡ Shown k w → ((judge room s x).1.stage ≡ stage.Shown) × ShowsBad (judge room s x).1.board bytes k w) (sym t.1)
+      let f = subst (λ x. (judge room s x).0 ≡ Ok (Shown k w) → ((judge room s x).1.stage ≡ stage.Shown) × ShowsBad (judge room s x).1.board bytes k w) (sym t.1)
       (show_facts room s inv t.0 bytes k w) t.2 in
       subst (λ z. ShowsBad z.board bytes k w) (sym (stays room calls (judge room s c).1 f.0)) f.1
 
 -- ---- the stage of a show is reached by a show alone
 
 abbrev ByShow : Call → Answer → Type 0
-ByShow c a = (bytes : List ℕ) × (k : ℕ) × (w : ℕ) × ((work : ℕ) × (c ≡ show work bytes) × (a ≡ Shown k w))
+ByShow c a = (bytes : List ℕ) × (k : ℕ) × (w : ℕ) × ((work : ℕ) × (c ≡ show work bytes) × (a ≡ Ok (Shown k w)))
 
 abbrev Becomes : Call → Outcome → Type 0
 Becomes c r = (r.1.stage ≢ stage.Shown) ⊎ ByShow c r.0

@@ -1,5 +1,5 @@
 -- What a case means, the calls that can be made of it, and how each is judged.
-use Rattle.std.specs.Prelude.{ℕ, ◌*◌, Bool, true, false, ◌&&◌, List, [], ◌∷◌, ◌++◌, length, Some, None, Ok, Err, Option, ◌==◌, nat_le}
+use Rattle.std.specs.Prelude.{ℕ, ◌*◌, Bool, true, false, ◌&&◌, List, [], ◌∷◌, ◌++◌, length, Some, None, Ok, Err, Option, Result, ◌==◌, nat_le}
 use Rattle.refusals.specs.declared.Refusal.{Refusal}
 use Rattle.refusals.specs.declared.Refusal.TheVariants as refusal
 use Rattle.gates.specs.Records.{gate_in}
@@ -16,8 +16,8 @@ use Rattle.stages.specs.declared.Event.TheVariants as event
 use Rattle.stages.specs.declared.Stage.{Stage}
 use Rattle.stages.specs.declared.Stage.TheVariants as stage
 use Rattle.stages.specs.Stages.{after}
-use Rattle.histories.specs.declared.Answer.{Answer}
-use Rattle.histories.specs.declared.Answer.TheVariants.{Accepted, Shown, Refused}
+use Rattle.histories.specs.declared.Reply.{Reply}
+use Rattle.histories.specs.declared.Reply.TheVariants.{Accepted, Shown}
 use Rattle.histories.specs.Shown.{all_bits, valuation, satisfies, shown_run, first_bad}
 
 -- ---- a case
@@ -86,30 +86,30 @@ event_of (strike n) = event.Strike
 event_of pass = event.Pass
 event_of (show work bytes) = event.Show
 
+-- refused, or a reply
+abbrev pub Answer : Type 0
+Answer = Result Reply Refusal
+
 -- an answer, and what the case means then
 abbrev pub Outcome : Type 0
 Outcome = Answer × State
-
-abbrev pub answer_of : Verdict → Answer
-answer_of (Ok _) = Accepted
-answer_of (Err e) = Refused e
 
 -- ---- how a call is judged, where its stage takes it and leads to t
 
 -- Refused where the test fails, and nothing changes.
 abbrev pub test : Bool → Refusal → State → Outcome → Outcome
 test true e s next = next
-test false e s next = (Refused e, s)
+test false e s next = (Err e, s)
 
 abbrev pub judge_add : State → Stage → List ℕ → Outcome
 judge_add s t bytes =
     add_gate s.board.gates (gate_in bytes)
-    (λ g. (Accepted, state (sheet_of (s.board.gates ++ g ∷ []) s.board.property s.board.depth) t s.progress))
-    (λ e. (Refused e, s))
+    (λ g. (Ok Accepted, state (sheet_of (s.board.gates ++ g ∷ []) s.board.property s.board.depth) t s.progress))
+    (λ e. (Err e, s))
 
 abbrev pub by_closing : Option Refusal → State → State → Outcome
-by_closing (Some e) s next = (Refused e, s)
-by_closing None s next = (Accepted, next)
+by_closing (Some e) s next = (Err e, s)
+by_closing None s next = (Ok Accepted, next)
 
 abbrev pub judge_close : State → Stage → ℕ → ℕ → Outcome
 judge_close s t p d =
@@ -117,8 +117,8 @@ judge_close s t p d =
     by_closing (closing board) s (state board t (progress (length (formula_clauses kind.Base board)) s.progress.lines))
 
 abbrev pub by_verdict : Verdict → State → State → Outcome
-by_verdict (Ok _) s next = (Accepted, next)
-by_verdict (Err e) s next = (Refused e, s)
+by_verdict (Ok _) s next = (Ok Accepted, next)
+by_verdict (Err e) s next = (Err e, s)
 
 -- a line or a strike
 abbrev pub judge_item : State → Stage → Judged → Outcome
@@ -126,7 +126,7 @@ judge_item s t j = by_verdict j.0 s (state s.board t j.1)
 
 -- The shelf is wiped.
 abbrev pub judge_pass : State → Stage → Outcome
-judge_pass s t = (Accepted, state s.board t (progress (length (formula_clauses kind.Step s.board)) []))
+judge_pass s t = (Ok Accepted, state s.board t (progress (length (formula_clauses kind.Step s.board)) []))
 
 abbrev pub judge_show : State → Stage → ℕ → List ℕ → Outcome
 judge_show s t work bytes =
@@ -136,7 +136,7 @@ judge_show s t work bytes =
     test (nat_le (2 * length gs) work) refusal.Buffer s
     (test (length bytes == formula_variables kind.Base s.board && all_bits bytes) refusal.Valuation s
     (test (satisfies (valuation bytes) (formula_clauses kind.Base s.board)) refusal.Fails s
-    (let bad = first_bad gs p d (shown_run gs d bytes) in (Shown bad.0 bad.1, state s.board t s.progress))))
+    (let bad = first_bad gs p d (shown_run gs d bytes) in (Ok (Shown bad.0 bad.1), state s.board t s.progress))))
 
 abbrev pub judge_call : Room → State → Stage → Call → Outcome
 judge_call room s t (add bytes) = judge_add s t bytes
@@ -149,7 +149,7 @@ judge_call room s t (show work bytes) = judge_show s t work bytes
 -- ---- how any call is judged in any state
 
 abbrev pub by_stage : Option Stage → State → (Stage → Outcome) → Outcome
-by_stage None s next = (Refused refusal.Stage, s)
+by_stage None s next = (Err refusal.Stage, s)
 by_stage (Some t) s next = next t
 
 abbrev pub judge : Room → State → Call → Outcome

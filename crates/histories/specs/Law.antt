@@ -1,5 +1,5 @@
 -- The law of a case: what holds of it after any list of calls, however many of them were refused.
-use Rattle.std.specs.Prelude.{◌≡◌, ℕ, ◌<◌, ◌≤◌, Bool, true, false, cond, ◌≢◌, ◌⊎◌, ◌↔◌, List, [], ◌∷◌, ◌++◌, map, length, Some, None, Option}
+use Rattle.std.specs.Prelude.{◌≡◌, ℕ, ◌<◌, ◌≤◌, Bool, true, false, cond, ◌≢◌, ◌⊎◌, ◌↔◌, List, [], ◌∷◌, ◌++◌, map, length, Some, None, Ok, Err, Option}
 use Rattle.std.specs.List.{AllByRecursion as AllOf}
 use Rattle.refusals.specs.declared.Refusal.{Refusal}
 use Rattle.gates.specs.Records.{record_of}
@@ -14,17 +14,15 @@ use Rattle.refutations.specs.Refuting.{Item, line as item_line, strike as item_s
 use Rattle.acceptance.specs.Judged.{NumbersFit, CostsFit}
 use Rattle.stages.specs.declared.Stage.{Stage}
 use Rattle.stages.specs.declared.Stage.TheVariants as stage
-use Rattle.histories.specs.declared.Answer.{Answer}
-use Rattle.histories.specs.declared.Answer.TheVariants.{Accepted, Shown, Refused}
+use Rattle.histories.specs.declared.Reply.TheVariants.{Accepted, Shown}
 use Rattle.histories.specs.Shown.{shown_run}
-use Rattle.histories.specs.Cases.{State, Room, Call, add, close, line, strike, pass, show, judge, calls_from, replayed}
+use Rattle.histories.specs.Cases.{State, Room, Call, Answer, add, close, line, strike, pass, show, judge, calls_from, replayed}
 
 -- ---- what a list of calls, with its answers, says
 
 abbrev pub taken : Answer → Bool
-taken Accepted = true
-taken (Shown frame wire) = true
-taken (Refused e) = false
+taken (Ok reply) = true
+taken (Err e) = false
 
 -- the records of the accepted adds, in order
 abbrev pub added : Call → List (List ℕ)
@@ -69,7 +67,7 @@ abbrev pub ShowTaken : List Call → List Answer → List ℕ → ℕ → ℕ �
 ShowTaken [] answers bytes k w = ⊥
 ShowTaken (c ∷ calls) [] bytes k w = ⊥
 ShowTaken (c ∷ calls) (a ∷ answers) bytes k w =
-    ((work : ℕ) × (c ≡ show work bytes) × (a ≡ Shown k w)) ⊎ ShowTaken calls answers bytes k w
+    ((work : ℕ) × (c ≡ show work bytes) × (a ≡ Ok (Shown k w))) ⊎ ShowTaken calls answers bytes k w
 
 -- ---- the board that the calls drew
 
@@ -112,7 +110,7 @@ offered marks (item ∷ items) = offer marks item ∷ offered marks items
 
 -- Every call is accepted, and the case ends at this stage.
 abbrev pub TakenWhole : Room → State → List Call → Stage → Type 0
-TakenWhole room s calls end = AllOf (λ a. a ≡ Accepted) (calls_from room s calls).0 × ((calls_from room s calls).1.stage ≡ end)
+TakenWhole room s calls end = AllOf (λ a. a ≡ Ok Accepted) (calls_from room s calls).0 × ((calls_from room s calls).1.stage ≡ end)
 
 -- Each list that refutes the clauses over the variables 1 to V, and whose numbers and costs fit, is taken whole.
 abbrev pub Takes : Room → State → ℕ → List Clause → Stage → Type 0
@@ -149,7 +147,7 @@ LawStands = (room : Room) (calls : List Call) → Law room calls
 
 -- A call that is refused changes nothing.
 abbrev pub RefusalsChangeNothing : Type 0
-RefusalsChangeNothing = (room : Room) (s : State) (c : Call) (e : Refusal) → (judge room s c).0 ≡ Refused e → (judge room s c).1 ≡ s
+RefusalsChangeNothing = (room : Room) (s : State) (c : Call) (e : Refusal) → (judge room s c).0 ≡ Err e → (judge room s c).1 ≡ s
 
 -- More calls go on from where the first ones led.
 abbrev pub CallsGoOn : Type 0

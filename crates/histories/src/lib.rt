@@ -6,28 +6,21 @@
 
 ghost use Rattle.histories.specs.Law.{LawStands, RefusalsChangeNothing, CallsGoOn};
 
-use refusals::Refusal;
-
-/// What a call is answered.
+/// What a call that is not refused is answered.
 #[derive(Clone, Copy, PartialEq, Eq, Debug)]
-pub enum Answer {
+pub enum Reply {
     Accepted,
     /// A show: the first bad frame, counted from 1, and its lowest undefined wire, or else the property wire.
-    Shown(usize, usize),
-    Refused(Refusal),
+    Shown { frame: usize, wire: usize },
 }
 
 /// The law of a case, for every shelf and every list of calls.
-pub fn law_stands() -> u8
+pub fn law_stands()
     ensures { LawStands }
-{
-    0
-}
+{}
 
 /// A call that is refused changes nothing, and later calls go on from where the earlier ones led.
-pub fn calls_go_on() -> u8
+pub fn calls_go_on()
     ensures refused { RefusalsChangeNothing }
     ensures later { CallsGoOn }
-{
-    0
-}
+{}

@@ -1,5 +1,3 @@
-mod Faulty
-mod Telling
 mod Cutting
 mod Reading
 mod Running

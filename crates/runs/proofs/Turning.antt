@@ -1,68 +1,109 @@
--- One turn of a run: a row of inputs, the frame that follows, and what is wrong with it.
-use Rattle.std.proofs.Common.{◌≡◌, ℕ, suc, ◌+◌, ◌*◌, ◌<◌, Bool, List, [], ◌++◌, map, length, get_or, take, drop, sym, ap, ◌∙◌, subst, add-one, arith}
+-- One turn of a run: a row of inputs, the frame before, and what is told of the frame.
+use Rattle.std.proofs.Common.{◌≡◌, ℕ, zero, suc, ◌-◌, ◌<◌, Bool, true, false, List, [], ◌∷◌, ◌++◌, map, length, get_or, slice_get, Some, None, Option, Ok, Err, Result, MatchOption, MatchResult, IsSomeAnd, sym, refl, ap, ◌∙◌, subst, arith}
+use Rattle.std.specs.Borrow.{Bor}
 use Rattle.std.specs.List.{AllByRecursion as AllOf}
-use Rattle.std.proofs.lemmas.List.{length-drop, length-take-le}
-use Rattle.values.specs.Single.{single}
+use Rattle.std.specs.Option.{option_map}
+use Rattle.std.proofs.lemmas.List.{get_or-map, length-map}
+use Rattle.std.proofs.lemmas.Option.{slice_get-map}
+use Rattle.refusals.specs.declared.Failure.{Failure}
+use Rattle.refusals.specs.declared.Failure.TheVariants.{Memory}
+use Rattle.values.specs.Single.{single, is1}
 use Rattle.values.specs.declared.single.Value.{Value}
 use Rattle.gates.specs.declared.gate.Gate.{Gate}
-use Rattle.solutions.specs.Solutions.{reads, given}
+use Rattle.boards.specs.Sheets.{Sheet}
+use Rattle.solutions.specs.Solutions.{reads}
 use Rattle.solutions.specs.Rounds.{frame_row}
-use Rattle.solutions.specs.Runs.{bit}
+use Rattle.solutions.specs.Runs.{bit, input_count}
 use Rattle.solutions.specs.Claims.{Named}
+use Rattle.frames.specs.Frames.{frame_given}
 use Rattle.runs.specs.Faults.{Fault, Faultless}
 use Rattle.runs.specs.Inputs.{HoldsRows}
-use Rattle.runs.specs.Traces.{HoldsFrames, Judged}
+use Rattle.runs.specs.Rows.{Rows}
+use Rattle.runs.specs.Traces.{HoldsFrames, last_of, Judged, Found, Traced}
+use Rattle.runs.specs.declared.trace.Trace.{Trace}
 use Rattle.runs.specs.declared.trace.Verdict.TheVariants as verdict
-use Rattle.runs.proofs.Cutting.{row_fits, row_of}
-use Rattle.runs.proofs.Running.{Reached, frame_length, reached_more, judged_bad, judged_good}
+use Rattle.runs.proofs.Running.{Reached, frame_length, reached_more, judged_bad}
 
-pub row_length : (k count width : ℕ) (values row : List Value) → k < count → length values ≡ count * width → row ≡ take width (drop (k * width) values) → length row ≡ width
-row_length k count width values row l size e =
-    ap length e ∙ length-take-le width (drop (k * width) values) (omega (arith, length-drop (k * width) values, row_fits k count width l))
+-- the bits of a row's values
+abbrev pub bits_of : List (List Value) → List (List Bool)
+bits_of rows = map (map is1) rows
 
-inputs_are : (gs : List Gate) (width count k : ℕ) (values row : List Value) (run : List (List Bool)) → HoldsRows gs width count values run → k < count
-    → row ≡ take width (drop (k * width) values) → row ≡ map bit (get_or run k [])
-inputs_are gs width count k values row run h l e =
-    let sizes = subst (λ w. AllOf (λ r. length r ≡ w) run) (sym h.1) h.0 in
-    e ∙ ap (λ xs. take width (drop (k * width) xs)) h.3 ∙ row_of width bit run k sizes (omega (arith, h.2))
+one_of_bit : (b : Bool) → is1 (bit b) ≡ b
+one_of_bit true = refl
+one_of_bit false = refl
+
+bits_back : (bits : List Bool) → map is1 (map bit bits) ≡ bits
+bits_back [] = refl
+bits_back (b ∷ bits) = ap (λ x. x ∷ map is1 (map bit bits)) (one_of_bit b) ∙ ap (λ xs. b ∷ xs) (bits_back bits)
+
+pub rows_back : (rows : List (List Bool)) → bits_of (map (map bit) rows) ≡ rows
+rows_back [] = refl
+rows_back (row ∷ rows) = ap (λ x. x ∷ bits_of (map (map bit) rows)) (bits_back row) ∙ ap (λ xs. row ∷ xs) (rows_back rows)
+
+pub bits_given : (gs : List Gate) (values : List (List Value)) (rows : List (List Bool)) → HoldsRows gs values rows → bits_of values ≡ rows
+bits_given gs values rows h = ap bits_of h.1 ∙ rows_back rows
+
+pub traced : (s : Sheet) (bytes : List ℕ) (rows : List (List Bool)) (r : Result Trace Failure) → Rows s.gates s.depth bytes rows → MatchResult r (λ t. Found s rows t) (λ e. e ≡ Memory)
+    → Traced s bytes r
+traced s bytes rows (Ok t) read found = (rows, read, found)
+traced s bytes rows (Err e) read is = subst (λ f. Traced s bytes (Err f)) (sym is) tt
+
+all_at : {X : Type 0} (P : X → Type 0) (xs : List X) (i : ℕ) (d : X) → AllOf P xs → i < length xs → P (get_or xs i d)
+all_at P [] i d h l = let none : ⊥ = omega arith in absurd none
+all_at P (x ∷ xs) zero d h l = h.0
+all_at P (x ∷ xs) (suc i) d h l = all_at P xs i d h.1 (omega arith)
+
+lent_reads : {V : Type 0} (v : V → List Value) (P : Bor V → Bor (List Value) → Type 0) (last : Option (Bor V)) (lent : Option (Bor (List Value)))
+    → MatchOption last (lent ≡ None) (λ x. IsSomeAnd lent (P x)) → ((x : Bor V) (y : Bor (List Value)) → P x y → y.now ≡ v x.now)
+    → option_map (λ x. x.now) lent ≡ option_map v (option_map (λ x. x.now) last)
+lent_reads v P None lent cases reads = ap (option_map (λ x. x.now)) cases
+lent_reads v P (Some x) None cases reads = absurd cases
+lent_reads v P (Some x) (Some y) cases reads = ap Some (reads x y cases)
+
+-- the last frame, as it is lent
+pub last_lent : {V : Type 0} (v : V → List Value) (P : Bor V → Bor (List Value) → Type 0) (frames : List V) (last : Option (Bor V)) (lent : Option (Bor (List Value)))
+    → option_map (λ x. x.now) last ≡ slice_get frames (length frames - 1)
+    → MatchOption last (lent ≡ None) (λ x. IsSomeAnd lent (P x))
+    → ((x : Bor V) (y : Bor (List Value)) → P x y → y.now ≡ v x.now)
+    → option_map (λ x. x.now) lent ≡ last_of (map v frames)
+last_lent v P frames last lent is cases reads =
+    let read : option_map (λ x. x.now) lent ≡ option_map v (option_map (λ x. x.now) last) = lent_reads v P last lent cases reads in
+    read ∙ ap (option_map v) is ∙ sym (slice_get-map v frames (length frames - 1)) ∙ ap (λ n. slice_get (map v frames) (n - 1)) (sym (length-map frames v))
 
 -- what was told of the frame as it was lent
 told_at : (T : ℕ → ℕ → (ℕ → Value) → Type 0) (n p q : ℕ) (told frame : List Value) → told ≡ frame → q ≡ p → length frame ≡ n → T (length told) q (reads single told) → T n p (reads single frame)
 told_at T n p q told frame e f g h =
     subst (λ m. T m p (reads single frame)) g (subst (λ r. T (length frame) r (reads single frame)) f (subst (λ xs. T (length xs) q (reads single xs)) e h))
 
-module _ (gs : List Gate) (p : ℕ) (named : Named gs) (within : p < length gs) (width count k : ℕ) (inputs row : List Value) (l : k < count)
-    (row_is : row ≡ take width (drop (k * width) inputs)) (before lent frame : List Value) (Lent-is : lent ≡ before)
-    (is : frame ≡ frame_row single gs (given single gs row (reads single lent))) (values more after : List Value) (more-is : more ≡ frame) (after_is : after ≡ values ++ more)
-    (told : List Value) (q : ℕ) (told_is : told ≡ frame) (property : q ≡ p)
-    (so_far : (run : List (List Bool)) → HoldsRows gs width count inputs run → Reached gs p run values before k)
-    (run : List (List Bool)) (holds : HoldsRows gs width count inputs run) where
-  frame_is : frame ≡ frame_row single gs (given single gs row (reads single before))
-  frame_is = is ∙ ap (λ xs. frame_row single gs (given single gs row (reads single xs))) Lent-is
+module _ (gs : List Gate) (p : ℕ) (named : Named gs) (within : p < length gs) {V : Type 0} (v : V → List Value) (rows : List V) (run : List (List Bool)) (holds : HoldsRows gs (map v rows) run)
+    (k : ℕ) (x : V) (l : k < length rows) (x_is : x ≡ get_or rows k x) where
+  in_run : k < length run
+  in_run = omega (arith, sym (length-map rows v) ∙ ap length holds.1 ∙ length-map run (map bit))
 
-  row_bits : row ≡ map bit (get_or run k [])
-  row_bits = inputs_are gs width count k inputs row run holds l row_is
+  row_bits : v x ≡ map bit (get_or run k [])
+  row_bits = ap v x_is ∙ sym (get_or-map v rows k x [] l) ∙ ap (λ xs. get_or xs k []) holds.1 ∙ get_or-map (map bit) run k [] [] in_run
 
-  joined_is : after ≡ values ++ frame
-  joined_is = after_is ∙ ap (λ xs. values ++ xs) more-is
+  pub row_long : length (v x) ≡ input_count gs
+  row_long = ap length row_bits ∙ length-map (get_or run k []) bit ∙ all_at (λ r. length r ≡ input_count gs) run k [] holds.0 in_run
 
-  long : length frame ≡ length gs
-  long = frame_length gs named row before frame frame_is
+  module _ (frames : List (List Value)) (reached : Reached gs p run frames k) (inputs : List Value) (lent : inputs ≡ v x) (before : Option (List Value)) (last : before ≡ last_of frames)
+      (frame : List Value) (is : frame ≡ frame_row single gs (frame_given single gs inputs before)) (after : List (List Value)) (more : after ≡ frames ++ frame ∷ [])
+      (told : List Value) (q : ℕ) (told_is : told ≡ frame) (property : q ≡ p) (n : ℕ) (next : n ≡ suc k) where
+    row : inputs ≡ map bit (get_or run k [])
+    row = lent ∙ row_bits
 
-  pub turn_bad : (w : ℕ) → Fault (length told) q (reads single told) w → HoldsFrames gs run after (k + 1) × Judged gs p run (verdict.Bad (k + 1) w)
-  turn_bad w h =
-      let fault = told_at (λ n r f. Fault n r f w) (length gs) p q told frame told_is property long h in
-      let bad = judged_bad gs p run named within k values before frame row (so_far run holds) row_bits frame_is w (omega (arith, holds.2)) fault in
-      subst (λ m. HoldsFrames gs run after m × Judged gs p run (verdict.Bad m w)) (sym (add-one k))
-      (subst (λ xs. HoldsFrames gs run xs (suc k) × Judged gs p run (verdict.Bad (suc k) w)) (sym joined_is) bad)
+    frame_is : frame ≡ frame_row single gs (frame_given single gs inputs (last_of frames))
+    frame_is = is ∙ ap (λ o. frame_row single gs (frame_given single gs inputs o)) last
 
-  pub turn_good : Faultless (length told) q (reads single told) → Reached gs p run after frame (k + 1)
-  turn_good h =
-      let good = told_at Faultless (length gs) p q told frame told_is property long h in
-      subst (Reached gs p run after frame) (sym (add-one k))
-      (subst (λ xs. Reached gs p run xs frame (suc k)) (sym joined_is) (reached_more gs p run named within k values before frame row (so_far run holds) row_bits frame_is good))
+    long : length frame ≡ length gs
+    long = frame_length gs named inputs frame before is
 
-pub turns_end : (gs : List Gate) (p width count k : ℕ) (inputs values before : List Value) (run : List (List Bool)) → HoldsRows gs width count inputs run → count ≡ k
-    → Reached gs p run values before k → HoldsFrames gs run values count × Judged gs p run (verdict.Good count)
-turns_end gs p width count k inputs values before run holds e reached =
-    subst (λ m. HoldsFrames gs run values m × Judged gs p run (verdict.Good m)) (sym e) (judged_good gs p run k values before reached (omega (arith, holds.2)))
+    pub turn_bad : (w : ℕ) → Fault (length told) q (reads single told) w → HoldsFrames gs run after n × Judged gs p run (verdict.Bad n w)
+    turn_bad w h =
+        judged_bad gs p run named within frames k reached inputs frame row frame_is after more n next w in_run
+        (told_at (λ n r f. Fault n r f w) (length gs) p q told frame told_is property long h)
+
+    pub turn_good : Faultless (length told) q (reads single told) → Reached gs p run after n
+    turn_good h =
+        reached_more gs p run named within frames k reached inputs frame row frame_is after more n next
+        (told_at Faultless (length gs) p q told frame told_is property long h)

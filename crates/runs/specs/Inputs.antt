@@ -1,12 +1,11 @@
 -- Rows of inputs as values, and bytes that are the rows of no run.
-use Rattle.std.specs.Prelude.{◌≡◌, ℕ, ◌*◌, Bool, List, map, length}
-use Rattle.std.specs.List.{flat_map}
+use Rattle.std.specs.Prelude.{◌≡◌, ℕ, ◌*◌, Bool, List, map}
 use Rattle.refusals.specs.declared.Failure.{Failure}
 use Rattle.refusals.specs.declared.Failure.TheVariants.{Refused, Memory}
 use Rattle.refusals.specs.declared.Refusal.TheVariants as refusal
 use Rattle.values.specs.declared.single.Value.{Value}
 use Rattle.gates.specs.declared.gate.Gate.{Gate}
-use Rattle.solutions.specs.Runs.{bit, input_count, Run}
+use Rattle.solutions.specs.Runs.{bit, Run}
 use Rattle.runs.specs.Rows.{byte, Rows}
 
 -- Refused as no valuation, since P; or there was no memory.
@@ -22,12 +21,12 @@ Bits bytes bits = map byte bits ≡ bytes
 abbrev pub ValuesOf : List ℕ → List Value → Type 0
 ValuesOf bytes values = (bits : List Bool) × Bits bytes bits × (values ≡ map bit bits)
 
--- The values are those of the rows of a run, one after the other: count rows of width values.
-abbrev pub HoldsRows : List Gate → ℕ → ℕ → List Value → List (List Bool) → Type 0
-HoldsRows gs width count values rows = Run gs rows × (width ≡ input_count gs) × (length rows ≡ count) × (values ≡ flat_map (map bit) rows)
+-- The values are those of the rows of a run.
+abbrev pub HoldsRows : List Gate → List (List Value) → List (List Bool) → Type 0
+HoldsRows gs values rows = Run gs rows × (values ≡ map (map bit) rows)
 
-abbrev pub RowsRead : List Gate → ℕ → List ℕ → ℕ → ℕ → List Value → Type 0
-RowsRead gs d bytes width count values = (rows : List (List Bool)) × Rows gs d bytes rows × HoldsRows gs width count values rows
+abbrev pub RowsRead : List Gate → ℕ → List ℕ → List (List Value) → Type 0
+RowsRead gs d bytes values = (rows : List (List Bool)) × Rows gs d bytes rows × HoldsRows gs values rows
 
 -- count rows of so many bytes; of rows without bytes there are d.
 abbrev pub Counts : ℕ → ℕ → ℕ → ℕ → Type 0

@@ -2,15 +2,9 @@
 use Rattle.std.specs.Prelude.{ℕ, List, [], ◌∷◌, ◌++◌, codes, decimal}
 use Rattle.std.specs.List.{flat_map}
 use Rattle.values.specs.declared.single.Value.{Value}
-use Rattle.values.specs.declared.single.Value.TheVariants.{Undefined, Zero, One}
+use Rattle.values.specs.Single.{letter}
 use Rattle.runs.specs.declared.trace.Verdict.{Verdict}
 use Rattle.runs.specs.declared.trace.Verdict.TheVariants.{Bad, Good}
-
--- U, 0 or 1
-abbrev pub letter : Value → ℕ
-letter Undefined = 85
-letter Zero = 48
-letter One = 49
 
 -- a space, and then the letter
 abbrev pub spaced : Value → List ℕ

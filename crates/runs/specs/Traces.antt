@@ -1,5 +1,5 @@
 -- A run's frames up to the first bad one, and what was found.
-use Rattle.std.specs.Prelude.{◌≡◌, ℕ, suc, ◌*◌, ◌<◌, Bool, List, length, take, drop, Ok, Err, vec_items, Result}
+use Rattle.std.specs.Prelude.{◌≡◌, ℕ, suc, ◌-◌, ◌<◌, Bool, List, [], map, length, slice_get, slice_index_or, Ok, Err, vec_items, Option, Result}
 use Rattle.refusals.specs.declared.Failure.{Failure}
 use Rattle.refusals.specs.declared.Failure.TheVariants.{Refused, Memory}
 use Rattle.refusals.specs.declared.Refusal.TheVariants as refusal
@@ -15,15 +15,15 @@ use Rattle.runs.specs.declared.trace.Trace.{Trace}
 use Rattle.runs.specs.Rows.{Rows}
 use Rattle.runs.specs.Faults.{Fault}
 
--- row k, counted from 0, of rows of n values each
-abbrev pub row_at : ℕ → List Value → ℕ → List Value
-row_at n values k = take n (drop (k * n) values)
+-- These are the first m frames of the run, each the values of all wires.
+abbrev pub HoldsFrames : List Gate → List (List Bool) → List (List Value) → ℕ → Type 0
+HoldsFrames gs rows frames m =
+    (length frames ≡ m)
+    × ((k : ℕ) → k < m → (length (slice_index_or frames k []) ≡ length gs) × Frame gs rows (suc k) (reads single (slice_index_or frames k [])))
 
--- The values are those of the first m frames, frame after frame.
-abbrev pub HoldsFrames : List Gate → List (List Bool) → List Value → ℕ → Type 0
-HoldsFrames gs rows values m =
-    (length values ≡ m * length gs)
-    × ((k : ℕ) → k < m → Frame gs rows (suc k) (reads single (row_at (length gs) values k)))
+-- the last of the frames, if there is one
+abbrev pub last_of : List (List Value) → Option (List Value)
+last_of frames = slice_get frames (length frames - 1)
 
 -- how many frames were worked out
 abbrev pub frames_of : Verdict → ℕ
@@ -38,7 +38,7 @@ Judged gs p rows (Good frames) = (frames ≡ length rows) × ((j : ℕ) → BadA
 
 -- The trace has the run's frames up to the first bad one, and what was found.
 abbrev pub Found : Sheet → List (List Bool) → Trace → Type 0
-Found s rows t = HoldsFrames s.gates rows (vec_items t.values) (frames_of t.verdict) × Judged s.gates s.property rows t.verdict
+Found s rows t = HoldsFrames s.gates rows (map vec_items (vec_items t.frames)) (frames_of t.verdict) × Judged s.gates s.property rows t.verdict
 
 -- What tracing a board over bytes answers: the trace of the run whose rows they are; refused where they are the rows of no run.
 abbrev pub Traced : Sheet → List ℕ → Result Trace Failure → Type 0

@@ -11,16 +11,12 @@ pub fn find_fault(frame: &[Value], property: usize) -> Option<usize>
         (Faultless (length frame.now) property (reads single frame.now))
         (λ w. Fault (length frame.now) property (reads single frame.now) w) }
 {
-    for (wire, value) in frame.iter().enumerate() {
-        if let Value::Undefined = *value {
-            return Some(wire);
-        }
+    let undefined = frame.iter().position(|value| *value == Value::Undefined);
+    if let Some(wire) = undefined {
+        return Some(wire);
     }
-    if property >= frame.len() {
-        return Some(property);
-    }
-    match frame[property] {
-        Value::One => None,
+    match frame.get(property) {
+        Some(Value::One) => None,
         _ => Some(property),
     }
 }

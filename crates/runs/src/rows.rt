@@ -1,4 +1,4 @@
-ghost use Rattle.std.specs.Prelude.{◌≡◌, ℕ, ◌*◌, ◌<◌, Bool, List, length, take, drop, vec_len, MatchResult, ◌≢◌};
+ghost use Rattle.std.specs.Prelude.{◌≡◌, ℕ, ◌*◌, Bool, List, map, vec_items, MatchResult, ◌≢◌};
 ghost use Rattle.refusals.specs.declared.Refusal.TheVariants.{Valuation};
 ghost use Rattle.boards.specs.Sheets.{sheet};
 ghost use Rattle.solutions.specs.Runs.{bit};
@@ -9,15 +9,6 @@ use boards::Board;
 use refusals::{Failure, Refusal};
 use std::alloc::Global;
 use values::Value;
-
-/// Rows of inputs: `count` rows of `width` values each, one after the other.
-#[derive(Drop)]
-pub struct InputRows {
-    pub(crate) width: usize,
-    pub(crate) count: usize,
-    pub(crate) values: Vec<Value>,
-    ghost whole: { vec_len values ≡ count * width },
-}
 
 /// The value of a byte, which is 0 or 1.
 fn read_value(byte: u8) -> Result<Value, Refusal>
@@ -48,43 +39,28 @@ fn read_values(heap: Global, bytes: &[u8]) -> Result<Vec<Value>, Failure>
 fn count_rows(width: usize, depth: usize, length: usize) -> Result<usize, Refusal>
     ensures { MatchResult result (λ c. Counts width depth length c) (λ e. (e ≡ Valuation) × ((c : ℕ) → length ≢ c * width)) }
 {
-    if width == 0 {
-        if length == 0 {
-            Ok(depth)
-        } else {
-            Err(Refusal::Valuation)
-        }
-    } else if length % width == 0 {
-        Ok(length / width)
-    } else {
-        Err(Refusal::Valuation)
+    if !length.is_multiple_of(width) {
+        return Err(Refusal::Valuation);
     }
+    Ok(length.checked_div(width).unwrap_or(depth))
 }
 
-impl InputRows {
-    /// Reads the rows of a run: a byte of 0 or 1 for each input of each frame. A board without inputs has no bytes, and
-    /// runs as many frames as its depth.
-    pub fn read(heap: Global, board: &Board, bytes: &[u8]) -> Result<InputRows, Failure>
-        ensures { MatchResult result
-            (λ t. RowsRead (sheet board.now).gates (sheet board.now).depth bytes.now t.width t.count t.values.items)
-            (λ e. NotRead ((rows : List (List Bool)) → Rows (sheet board.now).gates (sheet board.now).depth bytes.now rows → ⊥) e) }
-    {
-        let width = board.inputs();
-        let count = count_rows(width, board.depth() as usize, bytes.len())?;
-        let values = read_values(heap, bytes)?;
-        Ok(InputRows {
-            width,
-            count,
-            values,
-        })
+/// Reads the rows of a run: a byte of 0 or 1 for each input of each frame. A board without inputs has no bytes, and
+/// runs as many frames as its depth.
+pub fn read_rows(heap: Global, board: &Board, bytes: &[u8]) -> Result<Vec<Vec<Value>>, Failure>
+    ensures { MatchResult result
+        (λ v. RowsRead (sheet board.now).gates (sheet board.now).depth bytes.now (map vec_items v.items))
+        (λ e. NotRead ((rows : List (List Bool)) → Rows (sheet board.now).gates (sheet board.now).depth bytes.now rows → ⊥) e) }
+{
+    let width = board.inputs();
+    let count = count_rows(width, board.depth() as usize, bytes.len())?;
+    let mut rows = Vec::with_capacity(heap, count)?;
+    let mut rest = bytes;
+    for _ in 0..count {
+        let (row, more) = rest.split_at(width);
+        let values = read_values(heap, row)?;
+        rows.push(values)?;
+        rest = more;
     }
-
-    /// Row `index`, counted from 0.
-    pub(crate) fn row(&self, index: usize) -> &[Value]
-        requires { index < self.now.count }
-        ensures { result.now ≡ take self.now.width (drop (index * self.now.width) self.now.values.items) }
-    {
-        let start = index * self.width;
-        &self.values.as_slice()[start..start + self.width]
-    }
+    Ok(rows)
 }

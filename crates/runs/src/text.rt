@@ -1,23 +1,11 @@
 ghost use Rattle.std.specs.Prelude.{◌≡◌, length, IfOk, string_bytes};
 ghost use Rattle.gates.specs.Gates.{is_register, rank};
 ghost use Rattle.boards.specs.Sheets.{sheet};
-ghost use Rattle.runs.specs.Text.{letter as letter_of, board_line, frame_line, verdict_line};
+ghost use Rattle.runs.specs.Text.{board_line, frame_line};
 
-use crate::trace::Verdict;
 use boards::Board;
 use std::alloc::{AllocError, Global};
 use values::Value;
-
-/// The letter of a value: `U`, `0` or `1`.
-pub fn letter(value: Value) -> char
-    ensures { result ≡ letter_of value }
-{
-    match value {
-        Value::Undefined => 'U',
-        Value::Zero => '0',
-        Value::One => '1',
-    }
-}
 
 /// `board 9 0`: how many wires the board has, and how many registers.
 pub fn tell_board(heap: Global, board: &Board) -> Result<String, AllocError>
@@ -34,18 +22,7 @@ pub fn tell_frame(heap: Global, number: usize, values: &[Value]) -> Result<Strin
 {
     let mut line = format!(in heap; "frame {number}:")?;
     for value in values {
-        line.push(' ')?;
-        line.push(letter(*value))?;
+        write!(line, " {value}")?;
     }
     Ok(line)
-}
-
-/// `bad 1 3` or `good 2`.
-pub fn tell_verdict(heap: Global, verdict: Verdict) -> Result<String, AllocError>
-    ensures { IfOk result (λ t. string_bytes t ≡ verdict_line verdict) }
-{
-    match verdict {
-        Verdict::Bad { frame, wire } => format!(in heap; "bad {frame} {wire}"),
-        Verdict::Good { frames } => format!(in heap; "good {frames}"),
-    }
 }

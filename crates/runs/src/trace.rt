@@ -1,3 +1,6 @@
+ghost use Rattle.std.specs.Prelude.{Some};
+
+use std::fmt;
 use values::Value;
 
 /// What was found of a run. Frames are counted from 1, wires from 0.
@@ -9,9 +12,23 @@ pub enum Verdict {
     Good { frames: usize },
 }
 
-/// The frames of a run up to the first bad one, frame after frame, and the verdict.
+/// `bad 1 3` or `good 2`.
+impl fmt::Display for Verdict {
+    ghost use Rattle.runs.specs.Text.{verdict_line};
+
+    ghost output = { λ x. Some (verdict_line x) };
+
+    fn fmt<W: fmt::Write>(&self, f: &mut fmt::Formatter<W>) -> fmt::Result {
+        match *self {
+            Verdict::Bad { frame, wire } => write!(f, "bad {frame} {wire}"),
+            Verdict::Good { frames } => write!(f, "good {frames}"),
+        }
+    }
+}
+
+/// The frames of a run up to the first bad one, each the values of all wires, and the verdict.
 #[derive(Drop)]
 pub struct Trace {
-    pub values: Vec<Value>,
+    pub frames: Vec<Vec<Value>>,
     pub verdict: Verdict,
 }

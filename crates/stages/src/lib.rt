@@ -2,12 +2,13 @@
 
 #![tactic(auto)]
 
-ghost use Rattle.std.specs.Prelude.{◌≡◌, is_some, if◌then◌else◌, Ok, Err};
+ghost use Rattle.std.specs.Prelude.{◌≡◌, is_some, if◌then◌else◌, Some, Ok, Err};
 ghost use Rattle.std.specs.Option.{unwrap_or};
 ghost use Rattle.refusals.specs.declared.Refusal.TheVariants.{Stage as StageRefused};
 ghost use Rattle.stages.specs.Stages.{after, stage_name};
 
 use refusals::Refusal;
+use std::fmt;
 
 /// How far the judging of a board has come.
 #[derive(Clone, Copy, PartialEq, Eq, Debug)]
@@ -72,5 +73,13 @@ impl Stage {
             Stage::Safe => "SAFE",
             Stage::Shown => "SHOWN",
         }
+    }
+}
+
+impl fmt::Display for Stage {
+    ghost output = { λ x. Some (stage_name x) };
+
+    fn fmt<W: fmt::Write>(&self, f: &mut fmt::Formatter<W>) -> fmt::Result {
+        f.write_str(self.name())
     }
 }

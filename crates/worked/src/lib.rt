@@ -5,8 +5,6 @@
 ghost use Rattle.worked.specs.Worked.{BoardsWorked};
 
 /// The table of worked boards stands.
-pub fn boards_worked() -> u8
+pub fn boards_worked()
     ensures { BoardsWorked }
-{
-    0
-}
+{}
