@@ -1,6 +1,6 @@
 -- One round, wire by wire, for any kind.
 use Rattle.std.proofs.Common.{◌≡◌, ℕ, zero, suc, ◌+◌, ◌<◌, ◌≤◌, List, length, get_or, set, replicate, sym, refl, ap, ◌∙◌, subst, ⊎_elim, add-one, arith}
-use Rattle.std.proofs.lemmas.List.{length-set, length-replicate, get_or-replicate, get_or-set_same, get_or-set_other, get_or_past}
+use Rattle.std.proofs.lemmas.List.{length-set, length-replicate, get_or-replicate, get_or-set_same, get_or-set_other}
 use Rattle.std.proofs.lemmas.Bool.{cases_eq, cases_lt}
 use Rattle.values.specs.Kinds.{Kind}
 use Rattle.gates.specs.declared.gate.Gate.{Gate}
@@ -50,12 +50,6 @@ module _ {A : Type 0} (K : Kind A) (gs : List Gate) (given : ℕ → A) where
       (get_or-set_same ys w (want K gs given ys w) d (omega (arith, length_round w xs))))
       (λ n. get_or-set_other ys w u (want K gs given ys w) d n ∙ round_final w u xs d (omega arith) m)
       (cases_eq u w)
-
-  pub round_kept : (w j u : ℕ) (xs : List A) (d : A) → u < w → w ≤ j → get_or (round K gs given j xs) u d ≡ get_or (round K gs given w xs) u d
-  round_kept w j u xs d l m =
-      ⊎_elim (λ i. round_final j u xs d (omega arith) i ∙ sym (round_final w u xs d l i))
-      (λ o. get_or_past (round K gs given j xs) u d (omega (arith, length_round j xs)) ∙ sym (get_or_past (round K gs given w xs) u d (omega (arith, length_round w xs))))
-      (cases_lt u (length xs))
 
   pub rounds_none : rounds K gs given 0 ≡ replicate (length gs) K.undefined
   unfolding rounds

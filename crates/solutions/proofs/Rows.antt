@@ -1,7 +1,7 @@
 -- The test of two rows for equality, and the flag that a loop over a round keeps.
 use Rattle.std.proofs.Common.{◌≡◌, ℕ, zero, suc, ◌+◌, ◌<◌, Bool, true, false, not, ◌&&◌, ◌||◌, List, [], ◌∷◌, length, get_or, set, Decides, sym, refl, ap, ◌∙◌, ap₂, arith}
 use mathlib.Core.Bool.{false≢true}
-use Rattle.std.proofs.lemmas.Bool.{and_parts, and_from, and_right}
+use Rattle.std.proofs.lemmas.Bool.{and_parts, and_from}
 use Rattle.values.specs.Kinds.{Kind, Lawful}
 use Rattle.gates.specs.declared.gate.Gate.{Gate}
 use Rattle.solutions.specs.Rounds.{round, same_row}
@@ -74,18 +74,3 @@ module _ {A : Type 0} (K : Kind A) (L : Lawful K) where
         go true b = refl
         go false true = refl
         go false false = refl
-
-    -- the same where the code sets the flag under a test
-    pub changed_kept : (w : ℕ) (d : A) (changed : Bool) → w < length xs → same_row K xs (round K gs given w xs) ≡ not changed →
-        K.same (get_or (round K gs given w xs) w d) (want K gs given (round K gs given w xs) w) ≡ true →
-        same_row K xs (round K gs given (w + 1) xs) ≡ not changed
-    changed_kept w d changed l h e = same_row_more w d l ∙ (ap₂ ◌&&◌ h e ∙ go (not changed))
-      where
-        go : (a : Bool) → (a && true) ≡ a
-        go true = refl
-        go false = refl
-
-    pub changed_now : (w : ℕ) (d : A) → w < length xs →
-        K.same (get_or (round K gs given w xs) w d) (want K gs given (round K gs given w xs) w) ≡ false →
-        same_row K xs (round K gs given (w + 1) xs) ≡ not true
-    changed_now w d l e = same_row_more w d l ∙ and_right (same_row K xs (round K gs given w xs)) (K.same (get_or (round K gs given w xs) w d) (want K gs given (round K gs given w xs) w)) e

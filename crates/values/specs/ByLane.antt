@@ -1,4 +1,4 @@
--- The lanes of two words: what determines them, and the cases of a lane's two bits.
+-- The lanes of two words, and what determines them.
 use Rattle.std.specs.Prelude.{◌≡◌, ℕ, ◌^◌, ◌<◌, ◌≤◌, Bool, true, false, ◌&&◌, refl}
 use Rattle.std.proofs.Common.{sym, ap, ap₂, ◌∙◌, true≢false, arith}
 use mathlib.Core.HLevel.{is_prop→PathP, ×_prop}
@@ -11,7 +11,7 @@ use Rattle.values.specs.declared.lanes.Lanes.{Lanes}
 use Rattle.values.specs.Single.{is0, is1, from_rails}
 use Rattle.values.specs.Words.{bit, packed}
 use Rattle.values.specs.Lanes.{lane, by_lane}
-use Rattle.values.specs.Bits.{bit_of_and, bit_zero, bit_packed, bit_above, same_bits, apart_bits}
+use Rattle.values.specs.Bits.{bit_of_and, bit_zero, bit_packed, bit_above, same_bits}
 
 -- equal words make equal lanes
 pub same_words : (x y : Lanes) → x.zeros ≡ y.zeros → x.ones ≡ y.ones → x ≡ y
@@ -34,7 +34,7 @@ is1_from true false e = refl
 is1_from false true e = refl
 is1_from false false e = refl
 
-from_is : (x : Value) → from_rails (is0 x) (is1 x) ≡ x
+pub from_is : (x : Value) → from_rails (is0 x) (is1 x) ≡ x
 from_is Undefined = refl
 from_is Zero = refl
 from_is One = refl
@@ -82,38 +82,3 @@ packed_full false = refl
 pub splat_is : (x : Lanes) (v : Value) → x.zeros ≡ full (is0 v) → x.ones ≡ full (is1 v) → x ≡ by_lane (λ k. v)
 unfolding by_lane
 splat_is x v p q = same_words x (by_lane (λ k. v)) (p ∙ packed_full (is0 v)) (q ∙ packed_full (is1 v))
-
--- what the type asks of two words
-pub fields : (zeros ones : ℕ) → zeros < 2 ^ 64 → ones < 2 ^ 64 → ((k : ℕ) → (bit k zeros && bit k ones) ≡ false)
-    → ((zeros < 2 ^ 64) × (ones < 2 ^ 64)) × ((bit_and zeros ones ≡ 0) × Unit {0})
-fields zeros ones h l e = ((h, l), (apart_bits 64 zeros ones h l e, tt))
-
--- Two bits are known, and then what is left follows.
-abbrev pub Given : Bool → Bool → Bool → Bool → Type 0 → Type 0
-Given a b c e G = a ≡ c → b ≡ e → G
-
-pub by_bits : (a b : Bool) (G : Type 0) → Given a b false false G → Given a b true false G → Given a b false true G → Given a b true true G → G
-by_bits true true G u z o t = t refl refl
-by_bits true false G u z o t = z refl refl
-by_bits false true G u z o t = o refl refl
-by_bits false false G u z o t = u refl refl
-
--- bits k of the two words
-abbrev pub Lane : ℕ → Lanes → Bool → Bool → Type 0 → Type 0
-Lane k x a b G = Given (bit k x.zeros) (bit k x.ones) a b G
-
--- a lane has no rail up, or one of the two
-pub by_lanes : (x : Lanes) (k : ℕ) (G : Type 0) → Lane k x false false G → Lane k x true false G → Lane k x false true G → G
-by_lanes x k G u z o =
-    by_bits (bit k x.zeros) (bit k x.ones) G u z o (λ p q. absurd (true≢false (sym (ap₂ ◌&&◌ p q) ∙ bits_apart k x)))
-
-pub by_lanes₂ : (x y : Lanes) (k : ℕ) (G : Type 0)
-    → Lane k x false false (Lane k y false false G) → Lane k x false false (Lane k y true false G) → Lane k x false false (Lane k y false true G)
-    → Lane k x true false (Lane k y false false G) → Lane k x true false (Lane k y true false G) → Lane k x true false (Lane k y false true G)
-    → Lane k x false true (Lane k y false false G) → Lane k x false true (Lane k y true false G) → Lane k x false true (Lane k y false true G)
-    → G
-by_lanes₂ x y k G uu uz uo zu zz zo ou oz oo =
-    by_lanes x k G
-    (λ a b. by_lanes y k G (uu a b) (uz a b) (uo a b))
-    (λ a b. by_lanes y k G (zu a b) (zz a b) (zo a b))
-    (λ a b. by_lanes y k G (ou a b) (oz a b) (oo a b))

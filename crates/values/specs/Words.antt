@@ -41,7 +41,7 @@ packed_apart (suc n) f g h =
     and_block 1 (packed n (λ k. f (suc k))) (packed n (λ k. g (suc k))) (digit (f 0)) (digit (g 0)) (digit_lt (f 0)) (digit_lt (g 0))
     ∙ omega (arith, packed_apart n (λ k. f (suc k)) (λ k. g (suc k)) (λ k. h (suc k)), digits_apart (f 0) (g 0) (h 0))
 
-not_both : (x : Value) → (is0 x && is1 x) ≡ false
+pub not_both : (x : Value) → (is0 x && is1 x) ≡ false
 not_both Undefined = refl
 not_both Zero = refl
 not_both One = refl

@@ -1,33 +1,15 @@
--- By the nine cases of the two lanes' bits.
 use Rattle.std.proofs.Common.{rules}
 use lib.Bits.{or_lt}
-use Rattle.values.specs.Bits.{bit_of_and, bit_of_or}
-use Rattle.values.specs.ByLane.{fields, lanes_are, by_lanes₂}
+use Rattle.values.proofs.Rails.{rails_apart, rails_lanes, and_rails}
 use Rattle.values.proofs.lanes.kind.LanesValueKind.and.Goals as goal
 
 pub invariant_of-result-clause-words : goal.invariant_of-result-clause-words
 invariant_of-result-clause-words c = (search (rules, or_lt), search rules)
 
 pub invariant_of-result-clause-apart : goal.invariant_of-result-clause-apart
-invariant_of-result-clause-apart c = (fields _ _ (invariant_of-result-clause-words c).0 (invariant_of-result-clause-words c).1 (λ k. by_lanes₂ c.args.self c.args.other k _
-    (λ a b d e. simp (bit_of_and, bit_of_or, a, b, d, e))
-    (λ a b d e. simp (bit_of_and, bit_of_or, a, b, d, e))
-    (λ a b d e. simp (bit_of_and, bit_of_or, a, b, d, e))
-    (λ a b d e. simp (bit_of_and, bit_of_or, a, b, d, e))
-    (λ a b d e. simp (bit_of_and, bit_of_or, a, b, d, e))
-    (λ a b d e. simp (bit_of_and, bit_of_or, a, b, d, e))
-    (λ a b d e. simp (bit_of_and, bit_of_or, a, b, d, e))
-    (λ a b d e. simp (bit_of_and, bit_of_or, a, b, d, e))
-    (λ a b d e. simp (bit_of_and, bit_of_or, a, b, d, e)))).1.0
+invariant_of-result-clause-apart c =
+    let words = invariant_of-result-clause-words c in
+    rails_apart _ _ _ words.0 words.1 (and_rails c.args.self c.args.other)
 
 pub returns : goal.returns
-returns c = lanes_are _ _ (λ k l. by_lanes₂ c.args.self c.args.other k _
-    (λ a b d e. simp (bit_of_and, bit_of_or, a, b, d, e))
-    (λ a b d e. simp (bit_of_and, bit_of_or, a, b, d, e))
-    (λ a b d e. simp (bit_of_and, bit_of_or, a, b, d, e))
-    (λ a b d e. simp (bit_of_and, bit_of_or, a, b, d, e))
-    (λ a b d e. simp (bit_of_and, bit_of_or, a, b, d, e))
-    (λ a b d e. simp (bit_of_and, bit_of_or, a, b, d, e))
-    (λ a b d e. simp (bit_of_and, bit_of_or, a, b, d, e))
-    (λ a b d e. simp (bit_of_and, bit_of_or, a, b, d, e))
-    (λ a b d e. simp (bit_of_and, bit_of_or, a, b, d, e)))
+returns c = rails_lanes _ _ (and_rails c.args.self c.args.other)
