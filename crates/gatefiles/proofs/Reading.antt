@@ -1,7 +1,9 @@
 -- A gate file is read record by record.
-use Rattle.std.proofs.Common.{◌≡◌, ℕ, ◌+◌, ◌<◌, ◌≤◌, min, Bool, true, false, cond, ltb, ◌≢◌, ◌⊎◌, List, [], ◌∷◌, ◌++◌, length, get_or, take, Some, None, Ok, Err, Option, Result, sym, refl, ap, ◌∙◌, inl, inr, ⊎_elim, arith, MatchResult}
+use Rattle.std.proofs.Common.{◌≡◌, ℕ, ◌+◌, ◌<◌, ◌≤◌, min, Bool, true, false, cond, ltb, ◌≢◌, ◌⊎◌, List, [], ◌∷◌, ◌++◌, length, get_or, take, Some, None, Ok, Err, Option, Result, sym, refl, ap, subst, ◌∙◌, inl, inr, ⊎_elim, arith, MatchResult}
 use Rattle.std.specs.List.{flat_map}
+use Rattle.std.specs.Result.{IsErrAnd}
 use Rattle.std.proofs.lemmas.List.{append_assoc, append-nil, take_all, take-append-le, length-take, length_push, flat_map_more}
+use Rattle.std.proofs.lemmas.Result.{err_from_is_err_and}
 use Rattle.std.proofs.lemmas.Bool.{lt-ltb, le-ltb, le-leb, lt-leb, cases_lt}
 use Rattle.gates.specs.declared.gate.Gate.{Gate}
 use Rattle.refusals.specs.declared.Refusal.TheVariants as refusal
@@ -150,6 +152,16 @@ pub closed_or_not : (bytes : List ℕ) (s : Sheet) → bytes ≡ file_of s → l
     → MatchResult r (λ b. bytes ≡ file_of (sheet b)) (λ u. Misread bytes u.refusal)
 closed_or_not bytes s e few (Ok b) h = e ∙ ap file_of (sym h.1)
 closed_or_not bytes s e few (Err u) h = inr (s, e, ap (λ b. cond b (closing s) (Some refusal.Full)) (le-leb (length s.gates) 256 few) ∙ h.0)
+
+-- A file is read into a drawing without wires, or the drawing is handed back without wires; P is what is known of that.
+pub handed_back : (gs : List Gate) (bytes : List ℕ) → gs ≡ [] → (r s : Result Board Unclosed) (P : Unclosed → Unclosed → Type 0)
+    → MatchResult r (λ b. bytes ≡ file_of (sheet b)) (λ u. Misread bytes u.refusal) → MatchResult r (λ b. s ≡ Ok b) (λ u. IsErrAnd s (λ v. P u v))
+    → ((u v : Unclosed) → P u v → (drawn_of v.drawing ≡ []) × (v.refusal ≡ u.refusal)) → Read gs bytes s
+handed_back gs bytes none (Ok b) s P h e k = subst (Read gs bytes) (sym e) (none, h)
+handed_back gs bytes none (Err u) s P h e k =
+    let p = err_from_is_err_and s e in
+    let q = k u p.0 p.2 in
+    subst (Read gs bytes) (sym p.1) (q.0 ∙ sym none, inr (none, subst (Misread bytes) (sym q.1) h))
 
 -- A board whose file was read is read again as that board.
 pub reread : (gs : List Gate) (bytes : List ℕ) (r : Result Board Unclosed) → Read gs bytes r → Reread gs bytes r
