@@ -9,8 +9,6 @@ pub mod source;
 pub use source::ClauseSource;
 
 /// Two valuations that agree on the variables of some clauses satisfy them both, or neither does.
-pub fn variables_decide() -> u8
+pub fn variables_decide()
     ensures { VariablesDecide }
-{
-    0
-}
+{}

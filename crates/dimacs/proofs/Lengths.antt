@@ -15,8 +15,8 @@ use Rattle.wireclauses.proofs.Wires.{bounded}
 use Rattle.formulas.specs.Drives.{Drive, input, register, settled, driver}
 use Rattle.formulas.specs.Formulas.{rail_var, base_mark, step_mark, difference_mark, equation, apart, defined, held, driven, frame_clauses, mark_clauses, base_frames, base_marks, base_bad, base, step_frames, good_frame, step_good, step_bad, on_register, differs, pair_clauses, step_pairs, step}
 use Rattle.sources.specs.declared.formula.Formula.{Formula}
-use Rattle.sources.specs.declared.formula.FormulaKind.{FormulaKind}
-use Rattle.sources.specs.declared.formula.FormulaKind.TheVariants.{Base, Step}
+use Rattle.formulas.specs.declared.kind.FormulaKind.{FormulaKind}
+use Rattle.formulas.specs.declared.kind.FormulaKind.TheVariants.{Base, Step}
 use Rattle.sources.specs.Meaning.{formula_clauses, formula_variables, variables_of, clauses_of}
 use Rattle.formulas.proofs.Overs.{base_over, step_over}
 use Rattle.decimals.specs.Decimals.{text_of}

@@ -1,3 +1,4 @@
+pub mod Kinds
 pub mod Drives
 pub mod Formulas
 pub mod Claims

@@ -1,8 +1,8 @@
 -- What every call keeps.
 use Rattle.std.proofs.Common.{◌≡◌, ℕ, ◌⊎◌, List, [], ◌∷◌, ◌++◌, length, Ok, sym, refl, ap, subst, inl, inr, ⊎_elim}
 use Rattle.boards.specs.Sheets.{Sheet, sheet_of}
-use Rattle.sources.specs.declared.formula.FormulaKind.{FormulaKind}
-use Rattle.sources.specs.declared.formula.FormulaKind.TheVariants as kind
+use Rattle.formulas.specs.declared.kind.FormulaKind.{FormulaKind}
+use Rattle.formulas.specs.declared.kind.FormulaKind.TheVariants as kind
 use Rattle.sources.specs.Meaning.{formula_clauses, formula_variables}
 use Rattle.refutations.specs.Claims.{Unsatisfiable}
 use Rattle.refutations.specs.Refuting.{line as item_line, strike as item_strike}

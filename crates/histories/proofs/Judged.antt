@@ -6,7 +6,7 @@ use Rattle.refusals.specs.declared.Refusal.TheVariants as refusal
 use Rattle.gates.specs.declared.gate.Gate.{Gate}
 use Rattle.gates.specs.Records.{gate_in}
 use Rattle.boards.specs.Sheets.{sheet_of, add_gate, closing}
-use Rattle.sources.specs.declared.formula.FormulaKind.TheVariants as kind
+use Rattle.formulas.specs.declared.kind.FormulaKind.TheVariants as kind
 use Rattle.sources.specs.Meaning.{formula_clauses, formula_variables}
 use Rattle.hints.specs.Hints.{Verdict}
 use Rattle.refuting.specs.Judging.{progress, Judged, judge_line, judge_strike}

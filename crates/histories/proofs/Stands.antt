@@ -3,7 +3,7 @@ use Rattle.std.proofs.Common.{◌≡◌, ℕ, ◌↔◌, List, [], length, Some,
 use Rattle.boards.specs.Sheets.{Sheet, sheet_of, closing}
 use Rattle.formulas.specs.Formulas.{base, step, base_variables, step_variables}
 use Rattle.formulas.proofs.Overs.{base_over}
-use Rattle.sources.specs.declared.formula.FormulaKind.TheVariants as kind
+use Rattle.formulas.specs.declared.kind.FormulaKind.TheVariants as kind
 use Rattle.sources.specs.Meaning.{formula_clauses, formula_variables}
 use Rattle.solutions.proofs.Frames.{frame, frame_is, bad_or_good}
 use Rattle.induction.proofs.BaseFrom.{base_says}

@@ -5,8 +5,8 @@ use Rattle.refusals.specs.declared.Refusal.TheVariants as refusal
 use Rattle.gates.specs.Records.{gate_in}
 use Rattle.boards.specs.Sheets.{Sheet, sheet_of, add_gate, closing}
 use Rattle.clauses.specs.Clauses.{Clause, numbered}
-use Rattle.sources.specs.declared.formula.FormulaKind.{FormulaKind}
-use Rattle.sources.specs.declared.formula.FormulaKind.TheVariants as kind
+use Rattle.formulas.specs.declared.kind.FormulaKind.{FormulaKind}
+use Rattle.formulas.specs.declared.kind.FormulaKind.TheVariants as kind
 use Rattle.sources.specs.Meaning.{formula_clauses, formula_variables}
 use Rattle.hints.specs.Hints.{Verdict}
 use Rattle.shelf.specs.Lines.{Costs}

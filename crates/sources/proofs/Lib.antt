@@ -1,4 +1,6 @@
 pub mod Ranks
+pub mod Searches
+pub mod LateFrames
 pub mod Marks
 pub mod FrameBlocks
 pub mod Base
@@ -6,3 +8,4 @@ pub mod Between
 pub mod PairBlocks
 pub mod Steps
 pub mod Counts
+pub mod Parts

@@ -1,8 +1,10 @@
 -- The pairs of frames of the step.
-use Rattle.std.proofs.Common.{◌≡◌, ℕ, zero, suc, ◌+◌, ◌-◌, ◌*◌, ◌/◌, ◌%◌, ◌<◌, ◌≤◌, cond, eqb, List, [], ◌∷◌, ◌++◌, length, Some, None, Option, sym, refl, ap, ◌∙◌, subst, append-nil, add-zero, mul-le-mul_right, mod-lt, add-one, arith, length-append}
+use Rattle.std.proofs.Common.{◌≡◌, ℕ, zero, suc, ◌+◌, ◌-◌, ◌*◌, ◌/◌, ◌%◌, ◌<◌, ◌≤◌, List, [], ◌∷◌, ◌++◌, length, map, get_or, Some, None, Option, sym, refl, ap, ◌∙◌, subst, append-nil, add-zero, mul-le-mul_right, mod-lt, add-one, arith, length-append}
 use native.Mathlib.Nat.{div-add-mod}
 use Rattle.std.specs.List.{slice_get}
-use Rattle.std.proofs.lemmas.Option.{slice_get_past}
+use Rattle.std.proofs.lemmas.Option.{slice_get_past, slice_get-get_or, slice_get-map}
+use Rattle.std.proofs.lemmas.List.{length-map}
+use Rattle.std.specs.Option.{option_map}
 use Rattle.values.specs.Sides.{rail0}
 use Rattle.gates.specs.declared.gate.Gate.{Gate}
 use Rattle.clauses.specs.Clauses.{Clause, plus, minus, across}
@@ -10,16 +12,14 @@ use Rattle.clauses.proofs.Blocks.{nth_left, nth_right, length_blocks, nth_blocks
 use Rattle.formulas.specs.Drives.{Drive, input, register, settled, driver}
 use Rattle.formulas.specs.Formulas.{rail_var, on_register, differs, difference_mark, pair_clauses, step_pairs, pairs_before}
 use Rattle.formulas.proofs.Pairs.{pairs_more}
+use Rattle.wireclauses.specs.declared.literals.Few.{Few}
+use Rattle.wireclauses.specs.Literals.{few_of}
 use Rattle.wireclauses.specs.Sizes.{one_if}
 use Rattle.sources.specs.Rows.{registers_before}
 use Rattle.sources.specs.declared.pairs.Pair.{Pair}
 use Rattle.sources.specs.Places.{row_of, first_difference, PairAt}
 use Rattle.sources.proofs.Ranks.{rank_more}
 use Rattle.sources.proofs.Marks.{across_same}
-
-pub pairs_small : (j : ℕ) → j ≤ 9 → pairs_before j ≤ 8 * j
-pairs_small zero h = omega arith
-pairs_small (suc j) h = let m = pairs_more j in let k = pairs_small j (omega arith) in omega (arith, m, k)
 
 -- the depth as the code has it
 pub pair_past : (e d q : ℕ) → e ≡ d → PairAt e q None → pairs_before (d + 1) ≤ q
@@ -71,24 +71,25 @@ module _ (gs : List Gate) where
     pub pair_length : length (pair_clauses gs d i j) ≡ 2 * registers_before gs (length gs) + 1
     pair_length = omega (arith, length-append (pair_differs gs d i j) (pair_marks gs d i j ∷ []), lines_length)
 
-parity : (x : ℕ) → x < 2 → cond (eqb x 1) 1 0 ≡ x
-parity zero h = refl
-parity (suc zero) h = refl
-parity (suc (suc x)) h = absurd (omega arith)
+-- what is read of a row of clauses
+pub read_clause : (xs : List Few) (i : ℕ) (x : Few) (cs : List Clause) → map few_of xs ≡ cs → i < length cs → Some (few_of (get_or xs i x)) ≡ slice_get cs i
+read_clause xs i x cs e h =
+    let long = sym (length-map xs few_of) ∙ ap length e in
+    ap (option_map few_of) (sym (slice_get-get_or xs i x (omega (arith, long)))) ∙ (sym (slice_get-map few_of xs i) ∙ ap (λ ys. slice_get ys i) e)
 
 module _ (gs : List Gate) (d i j q : ℕ) (h : pairs_before j + i ≡ q) where
   diff_is : (w : ℕ) → difference_mark gs d i j w ≡ first_difference gs d q + registers_before gs w
   diff_is w = ap (λ x. first_difference gs d x + registers_before gs w) h
 
   -- the code's way to a register
-  pub turn_differ : (n m first w e r : ℕ) (o : Option (Clause)) → n ≡ length gs → m ≡ registers_before gs (length gs) → first ≡ first_difference gs d q → r < 2 * m → registers_before gs w ≤ r / 2 → r / 2 < registers_before gs (w + 1) → w < length gs → e ≡ first + r / 2 → o ≡ slice_get (differs n i j w e) (cond (eqb (r % 2) 1) 1 0) → o ≡ slice_get (pair_clauses gs d i j) r
+  pub turn_differ : (n m first w e r : ℕ) (o : Option (Clause)) → n ≡ length gs → m ≡ registers_before gs (length gs) → first ≡ first_difference gs d q → r < 2 * m → registers_before gs w ≤ r / 2 → r / 2 < registers_before gs (w + 1) → w < length gs → e ≡ first + r / 2 → o ≡ slice_get (differs n i j w e) (r % 2) → o ≡ slice_get (pair_clauses gs d i j) r
   turn_differ n m first w e r o z mm f l a b wl ee said =
       let b' = subst (λ x. r / 2 < x) (rank_more gs w) (subst (λ x. r / 2 < registers_before gs x) (add-one w) b) in
       let on = on_this (driver gs w) (differs (length gs) i j w (difference_mark gs d i j w)) (registers_before gs w) (r / 2) a b' in
-      let here : cond (eqb (r % 2) 1) 1 0 ≡ r - 2 * registers_before gs w = parity (r % 2) (omega arith) ∙ (let e2 = on.1 in omega arith) in
+      let here : r % 2 ≡ r - 2 * registers_before gs w = (let e2 = on.1 in omega arith) in
       let mark : e ≡ difference_mark gs d i j w = ee ∙ (ap (λ x. x + r / 2) f ∙ (ap (λ x. first_difference gs d q + x) (sym on.1) ∙ sym (diff_is w))) in
       said
-      ∙ (ap (λ x. slice_get (differs x i j w e) (cond (eqb (r % 2) 1) 1 0)) z
+      ∙ (ap (λ x. slice_get (differs x i j w e) (r % 2)) z
       ∙ (ap (slice_get (differs (length gs) i j w e)) here
       ∙ (ap (λ x. slice_get (differs (length gs) i j w x) (r - 2 * registers_before gs w)) mark
       ∙ (ap (λ x. slice_get x (r - 2 * registers_before gs w)) (sym on.0)

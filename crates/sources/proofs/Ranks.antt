@@ -1,15 +1,16 @@
 -- Registers are counted wire by wire, and the two rows hold the counts.
-use Rattle.std.proofs.Common.{◌≡◌, ℕ, zero, suc, ◌+◌, ◌<◌, ◌≤◌, Bool, true, false, cond, List, [], ◌∷◌, length, get_or, take, set, replicate, count_by, sym, refl, ap, ◌∙◌, subst, ⊎_elim, add-one, arith}
-use Rattle.std.proofs.lemmas.List.{get_or_default, get_or-set_same, get_or-set_other, length-set}
+use Rattle.std.proofs.Common.{◌≡◌, ℕ, zero, suc, ◌+◌, ◌<◌, ◌≤◌, Bool, true, false, cond, List, length, get_or, set, replicate, count_by, sym, refl, ap, ◌∙◌, subst, ⊎_elim, add-one, arith}
+use Rattle.std.proofs.lemmas.List.{get_or_past, get_or-set_same, get_or-set_other, get_or-replicate, length-set, length-replicate, take_all}
 use Rattle.std.proofs.lemmas.Bool.{cases_lt}
+use Rattle.std.specs.Int.{from_bool}
 use Rattle.gates.specs.declared.gate.Gate.{Gate}
 use Rattle.gates.specs.declared.gate.Gate.TheVariants.{Input, Zero, One, Copy, Not, And, Or, Implies, Xor, Register}
 use Rattle.gates.specs.Gates.{is_register}
 use Rattle.gates.proofs.Counting.{count_turn}
 use Rattle.formulas.specs.Drives.{Drive, input, register, settled, drive, driver}
-use Rattle.wireclauses.specs.Sizes.{one_if}
-use Rattle.sources.specs.Weights.{weight}
-use Rattle.sources.specs.Rows.{registers_before, Row, before}
+use Rattle.wireclauses.specs.Sizes.{plain_size, one_if}
+use Rattle.sources.specs.declared.rows.Before.{Before}
+use Rattle.sources.specs.Rows.{plain_before, registers_before, CountsBefore, RowUpTo}
 
 ones : (g : Gate) → ◌≡◌ {A = ℕ} (cond (is_register g) 1 0) (one_if (drive g))
 ones Input = refl
@@ -23,25 +24,13 @@ ones (Implies y z) = refl
 ones (Xor y z) = refl
 ones (Register y) = refl
 
-take_past : {X : Type 0} (xs : List X) (w : ℕ) → length xs ≤ w → take w xs ≡ xs
-take_past [] zero h = refl
-take_past [] (suc w) h = refl
-take_past (x ∷ xs) zero h = absurd (omega arith)
-take_past (x ∷ xs) (suc w) h = ap (λ ys. x ∷ ys) (take_past xs w (omega arith))
-
-get_or_beyond : {X : Type 0} (xs : List X) (w : ℕ) (d : X) → length xs ≤ w → get_or xs w d ≡ d
-get_or_beyond [] zero d h = refl
-get_or_beyond [] (suc w) d h = refl
-get_or_beyond (x ∷ xs) zero d h = absurd (omega arith)
-get_or_beyond (x ∷ xs) (suc w) d h = get_or_beyond xs w d (omega arith)
-
 -- past the last wire nothing is added
 pub rank_more : (gs : List Gate) (w : ℕ) → registers_before gs (suc w) ≡ registers_before gs w + one_if (driver gs w)
 rank_more gs w =
     ⊎_elim
     (λ l. ap (registers_before gs) (sym (add-one w)) ∙ (count_turn is_register gs w l ∙ ap (λ x. registers_before gs w + x) (ones (get_or gs w Input))))
-    (λ l. let a : registers_before gs (suc w) ≡ registers_before gs w = ap (count_by is_register) (take_past gs (suc w) (omega arith) ∙ sym (take_past gs w l)) in
-    let b : one_if (driver gs w) ≡ 0 = ap (λ g. one_if (drive g)) (get_or_beyond gs w Input l) in
+    (λ l. let a : registers_before gs (suc w) ≡ registers_before gs w = ap (count_by is_register) (take_all (suc w) gs (omega arith) ∙ sym (take_all w gs l)) in
+    let b : one_if (driver gs w) ≡ 0 = ap (λ g. one_if (drive g)) (get_or_past gs w Input l) in
     omega (arith, a, b))
     (cases_lt w (length gs))
 
@@ -54,36 +43,52 @@ pub registers_small : (gs : List Gate) (w : ℕ) → registers_before gs w ≤ w
 registers_small gs zero = omega arith
 registers_small gs (suc w) = omega (arith, registers_small gs w, rank_more gs w, one_small (driver gs w))
 
--- what is read from a row
-pub row_read : (xs : List ℕ) (n : ℕ) (f : ℕ → ℕ) (w x : ℕ) → Row xs n f → n ≤ 256 → w ≤ n → x ≡ get_or xs w x → x ≡ f w
-row_read xs n f w x row few h e = e ∙ (get_or_default xs w x 0 (omega (arith, row.0)) ∙ row.1 w h)
+-- the counts rise from wire to wire
+pub plain_up : (gs : List Gate) (w v : ℕ) → w ≤ v → plain_before gs w ≤ plain_before gs v
+plain_up gs w zero h = let e : w ≡ 0 = omega arith in subst (λ x. plain_before gs x ≤ plain_before gs 0) (sym e) (omega arith)
+plain_up gs w (suc v) h =
+    ⊎_elim
+    (λ l. omega (arith, plain_up gs w v (omega arith)))
+    (λ l. let e : w ≡ suc v = omega arith in subst (λ x. plain_before gs x ≤ plain_before gs (suc v)) (sym e) (omega arith))
+    (cases_lt w (suc v))
 
--- one more count in a row
-before_more : (b : Bool) (gs : List Gate) (w : ℕ) → before b gs (suc w) ≡ before b gs w + weight b (driver gs w)
-before_more true gs w = rank_more gs w
-before_more false gs w = refl
+pub registers_up : (gs : List Gate) (w v : ℕ) → w ≤ v → registers_before gs w ≤ registers_before gs v
+registers_up gs w zero h = let e : w ≡ 0 = omega arith in subst (λ x. registers_before gs x ≤ registers_before gs 0) (sym e) (omega arith)
+registers_up gs w (suc v) h =
+    ⊎_elim
+    (λ l. omega (arith, registers_up gs w v (omega arith), rank_more gs v))
+    (λ l. let e : w ≡ suc v = omega arith in subst (λ x. registers_before gs x ≤ registers_before gs (suc v)) (sym e) (omega arith))
+    (cases_lt w (suc v))
 
-pub sum_more : (b : Bool) (gs : List Gate) (w sum x : ℕ) (g : Gate) → sum ≡ before b gs w → w < length gs → x ≡ weight b (drive (get_or gs w g)) → sum + x ≡ before b gs (w + 1)
-sum_more b gs w sum x g s l e =
-    let here : x ≡ weight b (driver gs w) = e ∙ ap (λ y. weight b (drive y)) (get_or_default gs w g Input l) in
-    let more : before b gs (w + 1) ≡ before b gs w + weight b (driver gs w) = ap (before b gs) (add-one w) ∙ before_more b gs w in
-    cc (more, here, s)
+-- a row as far as it has been counted
+pub row_start : (xs : List Before) (gs : List Gate) (b : Before) → xs ≡ replicate 257 b → CountsBefore gs 0 b → RowUpTo xs gs 0
+row_start xs gs b e h =
+    subst (λ zs. RowUpTo zs gs 0) (sym e)
+    (length-replicate 257 b, λ w d l. let at : w ≡ 0 = omega arith in subst (CountsBefore gs w) (sym (get_or-replicate 257 w b d (omega arith))) (subst (λ x. CountsBefore gs x b) (sym at) h))
 
-pub row_set : (xs ys : List ℕ) (i x : ℕ) (f : ℕ → ℕ) → Row xs i f → i < 256 → ys ≡ set xs (i + 1) x → x ≡ f (i + 1) → Row ys (i + 1) f
-row_set xs ys i x f row few e h =
-    subst (λ zs. Row zs (i + 1) f) (sym e) (
-      length-set xs (i + 1) x ∙ row.0,
-      λ w l. ⊎_elim
-          (λ m. get_or-set_other xs (i + 1) w x 0 (λ q. absurd (omega arith)) ∙ row.1 w (omega arith))
-          (λ m. let at : w ≡ i + 1 = omega arith in ap (λ k. get_or (set xs (i + 1) x) k 0) at ∙ (get_or-set_same xs (i + 1) x 0 (omega (arith, row.0)) ∙ (h ∙ ap f (sym at))))
-          (cases_lt w (i + 1)),
-    )
+pub row_set : (xs : List Before) (gs : List Gate) (i : ℕ) (b : Before) → RowUpTo xs gs i → i < 256 → CountsBefore gs (i + 1) b → RowUpTo (set xs (i + 1) b) gs (i + 1)
+row_set xs gs i b row few h = (
+  length-set xs (i + 1) b ∙ row.0,
+  λ w d l. ⊎_elim
+      (λ m. subst (CountsBefore gs w) (sym (get_or-set_other xs (i + 1) w b d (λ q. absurd (omega arith)))) (row.1 w d (omega arith)))
+      (λ m. let at : w ≡ i + 1 = omega arith in
+      subst (CountsBefore gs w) (sym (ap (λ k. get_or (set xs (i + 1) b) k d) at ∙ get_or-set_same xs (i + 1) b d (omega (arith, row.0)))) (subst (λ x. CountsBefore gs x b) (sym at) h))
+      (cases_lt w (i + 1)),
+)
 
-none_before : (b : Bool) (gs : List Gate) → before b gs 0 ≡ 0
-none_before true gs = refl
-none_before false gs = refl
+-- one wire more
+pub from_bool_small : (b : Bool) → from_bool b ≤ 1
+from_bool_small true = omega arith
+from_bool_small false = omega arith
 
-pub row_start : (xs : List ℕ) (b : Bool) (gs : List Gate) → xs ≡ replicate 257 0 → Row xs 0 (before b gs)
-row_start xs b gs e =
-    subst (λ zs. Row zs 0 (before b gs)) (sym e)
-    (refl, λ w l. let at : w ≡ 0 = omega arith in ap (λ k. get_or (replicate 257 0) k 0) at ∙ (sym (none_before b gs) ∙ ap (before b gs) (sym at)))
+from_bool_is : (b : Bool) → from_bool b ≡ cond b 1 0
+from_bool_is true = refl
+from_bool_is false = refl
+
+pub counts_more : (gs : List Gate) (w : ℕ) (b : Before) (x y : ℕ) → CountsBefore gs w b → w < length gs
+    → x ≡ plain_size (driver gs w) → y ≡ from_bool (is_register (get_or gs w Input)) → (b.plain + x ≡ plain_before gs (w + 1)) × (b.registers + y ≡ registers_before gs (w + 1))
+counts_more gs w b x y h l e r =
+    let plain : plain_before gs (w + 1) ≡ plain_before gs w + plain_size (driver gs w) = ap (plain_before gs) (add-one w) in
+    let turn = count_turn is_register gs w l in
+    let bit = from_bool_is (is_register (get_or gs w Input)) in
+    (let k = h.0 in omega arith, let k = h.1 in omega arith)

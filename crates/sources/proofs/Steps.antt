@@ -1,13 +1,12 @@
 -- The step formula's parts.
-use Rattle.std.proofs.Common.{◌≡◌, ℕ, ◌+◌, ◌-◌, ◌*◌, ◌<◌, ◌≤◌, false, List, [], ◌∷◌, ◌++◌, length, Some, Option, sym, ap, ◌∙◌, subst, append_assoc, arith}
+use Rattle.std.proofs.Common.{◌≡◌, ℕ, ◌+◌, ◌-◌, ◌*◌, ◌<◌, ◌≤◌, List, [], ◌∷◌, ◌++◌, length, Some, Option, sym, ap, ◌∙◌, subst, append_assoc, arith}
 use Rattle.std.specs.List.{slice_get}
 use Rattle.gates.specs.declared.gate.Gate.{Gate}
-use Rattle.clauses.specs.Clauses.{Clause, across}
+use Rattle.clauses.specs.Clauses.{Clause}
 use Rattle.clauses.proofs.Blocks.{nth_left, nth_right}
-use Rattle.formulas.specs.Formulas.{frame_clauses, step_frames, step_good, mark_clauses, step_mark, step_bad, step_pairs, step}
+use Rattle.formulas.specs.Formulas.{step_frames, step_good, mark_clauses, step_mark, step_bad, step_pairs, step}
 use Rattle.sources.specs.declared.shape.Shape.{Shape}
-use Rattle.sources.specs.Places.{frame_place, clause_of, step_middle, step_tail}
-use Rattle.sources.proofs.FrameBlocks.{frames_length}
+use Rattle.sources.specs.Places.{clause_of, step_middle, step_tail}
 use Rattle.sources.proofs.Between.{good_length, middle_length}
 
 parts : {X : Type 0} (a b c e f : List X) → a ++ b ++ c ++ e ++ f ≡ a ++ (b ++ (c ++ e ++ f))
@@ -19,14 +18,6 @@ step_is gs p d =
     parts (step_frames gs d) (step_good n p d) (mark_clauses n d (step_mark n d)) (step_bad n p d ∷ []) (step_pairs gs d)
 
 module _ (gs : List Gate) (p d k : ℕ) where
-  pub step_in_frames : (frames : ℕ) (o : Option (Clause)) → frames ≡ frame_place false gs (d + 1) → k < frames → o ≡ slice_get (across (d + 1) (frame_clauses false gs)) k → o ≡ slice_get (step gs p d) k
-  step_in_frames frames o count h said = said ∙ (sym (nth_left (step_frames gs d) _ k (omega (arith, frames_length false gs (d + 1), count))) ∙ ap (λ x. slice_get x k) (sym (step_is gs p d)))
-
-  pub step_in_tail : (frames : ℕ) (o : Option (Clause)) → frames ≡ frame_place false gs (d + 1) → frames ≤ k → o ≡ slice_get (step_tail gs p d) (k - frames) → o ≡ slice_get (step gs p d) k
-  step_in_tail frames o count h said =
-      let long = frames_length false gs (d + 1) ∙ sym count in
-      said ∙ (ap (λ x. slice_get (step_tail gs p d) (k - x)) (sym long) ∙ (sym (nth_right (step_frames gs d) _ k (omega (arith, long))) ∙ ap (λ x. slice_get x k) (sym (step_is gs p d))))
-
   good_here : (o : Option (Clause)) → k < d * (length gs + 1) → o ≡ slice_get (step_good (length gs) p d) k → o ≡ slice_get (step_tail gs p d) k
   good_here o h said = said ∙ sym (nth_left (step_good (length gs) p d) _ k (omega (arith, good_length (length gs) p d)))
 

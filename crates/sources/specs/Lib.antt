@@ -1,4 +1,3 @@
-pub mod Weights
 pub mod Rows
 pub mod Places
 pub mod Meaning

@@ -1,12 +1,13 @@
 -- What a formula means.
-use Rattle.std.specs.Prelude.{ℕ, List}
+use Rattle.std.specs.Prelude.{ℕ, List, length}
 use Rattle.gates.specs.declared.gate.Gate.{Gate}
 use Rattle.boards.specs.Sheets.{Sheet, sheet}
 use Rattle.clauses.specs.Clauses.{Clause}
 use Rattle.formulas.specs.Formulas.{base, step, base_variables, step_variables}
-use Rattle.sources.specs.declared.formula.FormulaKind.{FormulaKind}
-use Rattle.sources.specs.declared.formula.FormulaKind.TheVariants.{Base, Step}
+use Rattle.formulas.specs.declared.kind.FormulaKind.{FormulaKind}
+use Rattle.formulas.specs.declared.kind.FormulaKind.TheVariants.{Base, Step}
 use Rattle.sources.specs.declared.formula.Formula.{Formula}
+use Rattle.sources.specs.Places.{base_tail, step_tail}
 
 abbrev pub formula_clauses : FormulaKind → Sheet → List Clause
 formula_clauses Base s = base s.gates s.property s.depth
@@ -15,6 +16,11 @@ formula_clauses Step s = step s.gates s.property s.depth
 abbrev pub formula_variables : FormulaKind → Sheet → ℕ
 formula_variables Base s = base_variables s.gates s.depth
 formula_variables Step s = step_variables s.gates s.depth
+
+-- the clauses behind those of the frames
+abbrev pub tail_of : FormulaKind → Sheet → List Clause
+tail_of Base s = base_tail (length s.gates) s.property s.depth
+tail_of Step s = step_tail s.gates s.property s.depth
 
 abbrev pub gates_of : Formula → List Gate
 gates_of f = (sheet f.board).gates

@@ -3,9 +3,12 @@ use Rattle.std.specs.Prelude.{◌≡◌, ℕ, zero, suc, ◌+◌, ◌*◌, ◌<�
 use Rattle.values.specs.Sides.{rail1}
 use Rattle.gates.specs.declared.gate.Gate.{Gate}
 use Rattle.clauses.specs.Clauses.{Clause, plus, minus, across}
-use Rattle.formulas.specs.Formulas.{rail_var, mark_clauses, step_mark, step_bad, step_good, step_pairs, register_count, pairs_before}
+use Rattle.formulas.specs.declared.kind.FormulaKind.{FormulaKind}
+use Rattle.formulas.specs.declared.kind.FormulaKind.TheVariants.{Base, Step}
+use Rattle.formulas.specs.Formulas.{rail_var, base_marks, base_bad, mark_clauses, step_mark, step_bad, step_good, step_pairs, register_count, pairs_before}
 use Rattle.wireclauses.specs.Literals.{few_of}
 use Rattle.wireclauses.specs.Sizes.{register_size}
+use Rattle.sources.specs.declared.shape.LongClause.{LongClause}
 use Rattle.sources.specs.declared.shape.Shape.{Shape}
 use Rattle.sources.specs.declared.shape.Shape.TheVariants.{Short, Long}
 use Rattle.sources.specs.declared.pairs.Pair.{Pair}
@@ -20,29 +23,39 @@ abbrev pub frame_place : Bool → List Gate → ℕ → ℕ
 frame_place starts gs zero = 0
 frame_place starts gs (suc i) = place gs (register_size starts 0) (length gs) + i * place gs 4 (length gs)
 
+-- how many frames a formula has
+abbrev pub frames_of : FormulaKind → ℕ → ℕ
+frames_of Base d = d
+frames_of Step d = d + 1
+
 -- so many marks from the first on, and then that the property fails in one of so many frames from a frame on
 abbrev pub row_of : ℕ → ℕ → ℕ → ℕ → ℕ → ℕ → Clause
 row_of n p first count frame frames =
     across count (λ x. plus (first + x) ∷ []) ++ across frames (λ i. minus (rail_var n (frame + i) (rail1 p)) ∷ [])
 
+abbrev pub long_clause : ℕ → ℕ → LongClause → Clause
+long_clause n p c = row_of n p c.first c.marks c.frame c.frames
+
 abbrev pub clause_of : ℕ → ℕ → Shape → Clause
 clause_of n p (Short c) = few_of c
-clause_of n p (Long first count frame frames) = row_of n p first count frame frames
+clause_of n p (Long c) = long_clause n p c
 
--- what is handed over is small enough to be read
-abbrev pub Ready : Option Shape → Type 0
-Ready None = Unit {0}
-Ready (Some (Short c)) = Unit {0}
-Ready (Some (Long first count frame frames)) = (first + count ≤ 65535) × (frame + frames ≤ 9)
+-- the later frame of the q-th pair, if it is d at most
+abbrev pub LateAt : ℕ → ℕ → Option ℕ → Type 0
+LateAt d q None = pairs_before (d + 1) ≤ q
+LateAt d q (Some late) = (1 ≤ late) × (late ≤ d) × (pairs_before late ≤ q) × (q < pairs_before late + late)
 
 -- the q-th pair of frames, counted by the later one, if that one is d at most
 abbrev pub PairAt : ℕ → ℕ → Option Pair → Type 0
 PairAt d q None = pairs_before (d + 1) ≤ q
 PairAt d q (Some pair) = (pair.early < pair.late) × (pair.late ≤ d) × (pairs_before pair.late + pair.early ≡ q)
 
--- the parts of the step formula behind its frames
+-- the parts of the formulas behind their frames
 abbrev pub step_middle : ℕ → ℕ → ℕ → List Clause
 step_middle n p d = mark_clauses n d (step_mark n d) ++ step_bad n p d ∷ []
+
+abbrev pub base_tail : ℕ → ℕ → ℕ → List Clause
+base_tail n p d = base_marks n d ++ base_bad n p d ∷ []
 
 abbrev pub step_tail : List Gate → ℕ → ℕ → List Clause
 step_tail gs p d = step_good (length gs) p d ++ (step_middle (length gs) p d ++ step_pairs gs d)

@@ -1,28 +1,17 @@
 ghost use Rattle.boards.specs.Sheets.{sheet};
-ghost use Rattle.std.specs.Prelude.{length};
-ghost use Rattle.sources.specs.Rows.{Row, plain_before, registers_before};
+ghost use Rattle.sources.specs.Rows.{Row};
 
+use crate::rows::Before;
 use boards::Board;
-
-/// Which of the two formulas of a board.
-#[derive(Clone, Copy)]
-pub enum FormulaKind {
-    /// The board runs from its start for d frames, and one of them is bad.
-    Base,
-    /// The board runs from anywhere for d good frames and a bad one, and no two of them have the same registers.
-    Step,
-}
+use formulas::FormulaKind;
 
 /// A formula of a board, for a depth of d.
 ///
-/// Two rows are made once: for each wire, and for all, how many clauses the wires before it have in a frame, but for the
-/// registers, and how many registers there are before it.
+/// What stands before each wire in a frame, and before the end, is counted once.
 #[derive(Drop)]
 pub struct Formula {
     pub(crate) board: Board,
     pub(crate) kind: FormulaKind,
-    pub(crate) plain: [u16; 257],
-    pub(crate) registers: [u16; 257],
-    ghost plain_row: { Row plain (length (sheet board).gates) (plain_before (sheet board).gates) },
-    ghost register_row: { Row registers (length (sheet board).gates) (registers_before (sheet board).gates) },
+    pub(crate) before: [Before; 257],
+    ghost counted: { Row before (sheet board).gates },
 }

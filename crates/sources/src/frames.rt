@@ -1,103 +1,119 @@
 ghost use Rattle.std.specs.Prelude.{◌≡◌, ◌+◌, ◌<◌, ◌≤◌, length};
 ghost use Rattle.std.specs.Option.{option_map};
-ghost use Rattle.std.specs.List.{slice_get};
+ghost use Rattle.std.specs.List.{slice_get, slice_range};
 ghost use Rattle.clauses.specs.Clauses.{across};
+ghost use Rattle.formulas.specs.Kinds.{starts};
 ghost use Rattle.formulas.specs.Formulas.{frame_clauses};
 ghost use Rattle.wireclauses.specs.Literals.{few_of};
 ghost use Rattle.wireclauses.specs.Sizes.{register_size as register_size_of};
-ghost use Rattle.sources.specs.Places.{place as place_of, frame_place};
-ghost use Rattle.sources.specs.Meaning.{gates_of, depth_of};
+ghost use Rattle.sources.specs.Rows.{registers_before};
+ghost use Rattle.sources.specs.Places.{place as place_of, frame_place, frames_of};
+ghost use Rattle.sources.specs.Meaning.{gates_of, property_of, depth_of};
 
 use crate::formula::Formula;
-use wireclauses::sides::register_size;
+use crate::outline::Outline;
+use crate::rows::Before;
+use wireclauses::Few;
 use wireclauses::wire::wire_clause;
-use wireclauses::{Few, Frame};
 
 impl Formula {
-    pub(crate) fn wires(&self) -> usize
-        ensures is { result ≡ length (gates_of self.now) }
-        ensures small { result ≤ 256 }
-        ensures some { 0 < result }
+    pub(crate) fn outline(&self) -> Outline
+        ensures kind { result.kind ≡ self.now.kind }
+        ensures wires { result.wires ≡ length (gates_of self.now) }
+        ensures property { result.property ≡ property_of self.now }
+        ensures depth { result.depth ≡ depth_of self.now }
+        ensures some { 0 < result.wires }
     {
-        self.board.wires()
-    }
-
-    pub(crate) fn depth(&self) -> usize
-        ensures is { result ≡ depth_of self.now }
-        ensures small { result ≤ 8 }
-    {
-        self.board.depth() as usize
+        Outline {
+            kind: self.kind,
+            wires: self.board.wires(),
+            property: self.board.property(),
+            depth: usize::from(self.board.depth()),
+        }
     }
 
     /// How many clauses stand before wire w in a frame in which a register has c.
     fn place(&self, c: usize, w: usize) -> usize
-        requires { (c ≤ 4) × (w ≤ length (gates_of self.now)) }
+        requires size { c ≤ 4 }
+        requires within { w ≤ length (gates_of self.now) }
         ensures is { result ≡ place_of (gates_of self.now) c w }
         ensures small { result ≤ 400000 }
     {
-        self.plain[w] as usize + c * self.registers[w] as usize
+        self.before[w].clauses(c)
+    }
+
+    /// For each wire, what stands before the next.
+    fn behind(&self) -> &[Before]
+        ensures { result.now ≡ slice_range self.now.before 1 (length (gates_of self.now) + 1) }
+    {
+        &self.before[1..self.board.wires() + 1]
     }
 
     /// The wire to which the clause at place k of such a frame belongs.
     fn find(&self, c: usize, k: usize) -> usize
-        requires { (c ≤ 4) × (k < place_of (gates_of self.now) c (length (gates_of self.now))) }
+        requires size { c ≤ 4 }
+        requires within { k < place_of (gates_of self.now) c (length (gates_of self.now)) }
         ensures low { place_of (gates_of self.now) c result ≤ k }
         ensures high { k < place_of (gates_of self.now) c (result + 1) }
         ensures within { result < length (gates_of self.now) }
     {
-        let mut low = 0;
-        let mut high = self.wires();
-        'halves: while low + 1 < high {
-            let middle = low + (high - low) / 2;
-            if self.place(c, middle) <= k {
-                low = middle;
-            } else {
-                high = middle;
-            }
-        }
-        low
+        self.behind()
+            .partition_point(|before| before.clauses(c) <= k)
+    }
+
+    /// The wire of the register of a rank.
+    pub(crate) fn register(&self, rank: usize) -> usize
+        requires { rank < registers_before (gates_of self.now) (length (gates_of self.now)) }
+        ensures low { registers_before (gates_of self.now) result ≤ rank }
+        ensures high { rank < registers_before (gates_of self.now) (result + 1) }
+        ensures within { result < length (gates_of self.now) }
+    {
+        self.behind()
+            .partition_point(|before| usize::from(before.registers) <= rank)
+    }
+
+    pub(crate) fn register_count(&self) -> usize
+        ensures is { result ≡ registers_before (gates_of self.now) (length (gates_of self.now)) }
+        ensures small { result ≤ 256 }
+    {
+        usize::from(self.before[self.board.wires()].registers)
     }
 
     /// The clause at place k of the frame with i before it.
-    fn in_frame(&self, starts: bool, i: usize, k: usize) -> Option<Few>
-        requires { (i ≤ 8) × (k < place_of (gates_of self.now) (register_size_of starts i) (length (gates_of self.now))) }
-        ensures { option_map few_of result ≡ slice_get (frame_clauses starts (gates_of self.now) i) k }
+    fn in_frame(&self, i: usize, k: usize) -> Option<Few>
+        requires shallow { i ≤ 8 }
+        requires within { k < place_of (gates_of self.now) (register_size_of (starts self.now.kind) i) (length (gates_of self.now)) }
+        ensures { option_map few_of result ≡ slice_get (frame_clauses (starts self.now.kind) (gates_of self.now) i) k }
     {
-        let c = register_size(starts, i);
+        let frame = self.outline().frame(i);
+        let c = frame.register_size();
         let w = self.find(c, k);
         let gate = self.board.gates()[w];
-        let frame = Frame {
-            wires: self.wires(),
-            before: i,
-        };
-        wire_clause(starts, frame, w as u8, gate, k - self.place(c, w))
+        wire_clause(frame, w as u8, gate, k - self.place(c, w))
     }
 
-    /// How many clauses so many frames have.
-    pub(crate) fn frames_size(&self, starts: bool, frames: usize) -> usize
-        requires { frames ≤ 9 }
-        ensures is { result ≡ frame_place starts (gates_of self.now) frames }
+    /// How many clauses the frames have.
+    pub(crate) fn frames_size(&self) -> usize
+        ensures is { result ≡ frame_place (starts self.now.kind) (gates_of self.now) (frames_of self.now.kind (depth_of self.now)) }
         ensures small { result ≤ 4000000 }
     {
-        if frames == 0 {
-            return 0;
-        }
-        let n = self.wires();
-        self.place(register_size(starts, 0), n) + (frames - 1) * self.place(4, n)
+        let outline = self.outline();
+        let first = self.place(outline.frame(0).register_size(), outline.wires);
+        first + (outline.frames() - 1) * self.place(4, outline.wires)
     }
 
-    /// The clause at place k of so many frames.
-    pub(crate) fn in_frames(&self, starts: bool, frames: usize, k: usize) -> Option<Few>
-        requires { (frames ≤ 9) × (k < frame_place starts (gates_of self.now) frames) }
-        ensures { option_map few_of result ≡ slice_get (across frames (frame_clauses starts (gates_of self.now))) k }
+    /// The clause at place k of the frames.
+    pub(crate) fn in_frames(&self, k: usize) -> Option<Few>
+        requires { k < frame_place (starts self.now.kind) (gates_of self.now) (frames_of self.now.kind (depth_of self.now)) }
+        ensures { option_map few_of result ≡ slice_get (across (frames_of self.now.kind (depth_of self.now)) (frame_clauses (starts self.now.kind) (gates_of self.now))) k }
     {
-        let n = self.wires();
-        let first = self.place(register_size(starts, 0), n);
+        let outline = self.outline();
+        let first = self.place(outline.frame(0).register_size(), outline.wires);
         if k < first {
-            return self.in_frame(starts, 0, k);
+            return self.in_frame(0, k);
         }
-        let later = self.place(4, n);
+        let later = self.place(4, outline.wires);
         let rest = k - first;
-        self.in_frame(starts, 1 + rest / later, rest % later)
+        self.in_frame(1 + rest / later, rest % later)
     }
 }

@@ -4,11 +4,14 @@
 
 pub mod formula;
 mod frames;
+mod literals;
 mod locate;
+mod outline;
 mod pairs;
 mod rows;
 pub mod shape;
 pub mod source;
 mod tails;
 
-pub use formula::{Formula, FormulaKind};
+pub use formula::Formula;
+pub use formulas::FormulaKind;

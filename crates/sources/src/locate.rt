@@ -1,150 +1,94 @@
-ghost use Rattle.std.specs.Prelude.{◌≡◌, ◌+◌, ◌*◌, ◌<◌, ◌≤◌, length, Some};
+ghost use Rattle.std.specs.Prelude.{◌≡◌, ◌+◌, ◌*◌, ◌≤◌, length, Some};
 ghost use Rattle.std.specs.Option.{option_map};
 ghost use Rattle.std.specs.List.{slice_get};
 ghost use Rattle.clauses.specs.Clauses.{numbered as numbered_of};
-ghost use Rattle.formulas.specs.Formulas.{base, step, pair_clauses, step_pairs};
+ghost use Rattle.formulas.specs.Formulas.{pair_clauses, step_pairs, pairs_before};
 ghost use Rattle.sources.specs.Rows.{registers_before};
-ghost use Rattle.sources.specs.Places.{clause_of, Ready, PairAt, step_tail, first_difference};
+ghost use Rattle.sources.specs.Places.{clause_of, step_tail, first_difference};
 ghost use Rattle.sources.specs.Meaning.{gates_of, property_of, depth_of, clauses_of};
 
-use crate::formula::{Formula, FormulaKind};
-use crate::pairs::{Pair, differing, pair_at};
-use crate::shape::{Shape, short};
-use crate::tails::{base_tail, good, middle};
-use wireclauses::Frame;
+use crate::formula::Formula;
+use crate::pairs::Pair;
+use crate::shape::{LongClause, Shape};
+use formulas::FormulaKind;
 
 impl Formula {
-    pub(crate) fn register_count(&self) -> usize
-        ensures is { result ≡ registers_before (gates_of self.now) (length (gates_of self.now)) }
-        ensures small { result ≤ 256 }
-    {
-        self.registers[self.wires()] as usize
-    }
-
-    /// The wire of the register of a rank.
-    fn register(&self, rank: usize) -> usize
-        requires { rank < registers_before (gates_of self.now) (length (gates_of self.now)) }
-        ensures low { registers_before (gates_of self.now) result ≤ rank }
-        ensures high { rank < registers_before (gates_of self.now) (result + 1) }
-        ensures within { result < length (gates_of self.now) }
-    {
-        let mut low = 0;
-        let mut high = self.wires();
-        'halves: while low + 1 < high {
-            let middle = low + (high - low) / 2;
-            if self.registers[middle] as usize <= rank {
-                low = middle;
-            } else {
-                high = middle;
-            }
-        }
-        low
-    }
-
-    /// The first difference mark of the q-th pair of frames.
-    fn first_difference(&self, q: usize) -> u16
-        requires { q ≤ 72 }
-        ensures is { result ≡ first_difference (gates_of self.now) (depth_of self.now) q }
+    /// The first difference mark of a pair of frames.
+    fn first_difference(&self, pair: Pair) -> usize
+        ensures is { result ≡ first_difference (gates_of self.now) (depth_of self.now) (pairs_before pair.late + pair.early) }
         ensures small { result ≤ 40000 }
     {
-        let n = self.wires();
-        let m = self.register_count();
-        (2 * n * (self.depth() + 1) + n + m * q) as u16
+        let outline = self.outline();
+        let n = outline.wires;
+        2 * n * (outline.depth + 1) + n + self.register_count() * pair.rank()
     }
 
-    /// The clause at place r of the q-th pair of frames.
-    fn in_pair(&self, pair: Pair, q: usize, r: usize) -> Shape
-        requires { (PairAt (depth_of self.now) q (Some pair)) × (r ≤ 2 * registers_before (gates_of self.now) (length (gates_of self.now))) }
-        ensures is { Some (clause_of (length (gates_of self.now)) (property_of self.now) result) ≡ slice_get (pair_clauses (gates_of self.now) (depth_of self.now) pair.early pair.late) r }
-        ensures ready { Ready (Some result) }
+    /// The clause at place r of a pair of frames.
+    fn in_pair(&self, pair: Pair, r: usize) -> Shape
+        requires { r ≤ 2 * registers_before (gates_of self.now) (length (gates_of self.now)) }
+        ensures { Some (clause_of (length (gates_of self.now)) (property_of self.now) result) ≡ slice_get (pair_clauses (gates_of self.now) (depth_of self.now) pair.early pair.late) r }
     {
-        let n = self.wires();
-        let m = self.register_count();
-        let first = self.first_difference(q);
-        if r < 2 * m {
-            let w = self.register(r / 2);
-            let e = first + (r / 2) as u16;
-            let early = Frame {
-                wires: n,
-                before: pair.early,
-            };
-            let late = Frame {
-                wires: n,
-                before: pair.late,
-            };
-            Shape::Short(differing(early, late, w as u8, e, r % 2 == 1))
+        let first = self.first_difference(pair);
+        let marks = self.register_count();
+        if r < 2 * marks {
+            let w = self.register(r / 2) as u8;
+            let e = (first + r / 2) as u16;
+            Shape::Short(self.outline().differing(pair, w, e)[r % 2])
         } else {
-            Shape::Long(first, m as u16, 0, 0)
+            Shape::Long(LongClause {
+                first,
+                marks,
+                frame: 0,
+                frames: 0,
+            })
         }
     }
 
     /// The clause at a place of the step's pairs of frames, if there is one.
     fn in_pairs(&self, k: usize) -> Option<Shape>
-        ensures is { option_map (clause_of (length (gates_of self.now)) (property_of self.now)) result ≡ slice_get (step_pairs (gates_of self.now) (depth_of self.now)) k }
-        ensures ready { Ready result }
+        ensures { option_map (clause_of (length (gates_of self.now)) (property_of self.now)) result ≡ slice_get (step_pairs (gates_of self.now) (depth_of self.now)) k }
     {
         let size = 2 * self.register_count() + 1;
-        let q = k / size;
-        let pair = pair_at(q, self.depth())?;
-        Some(self.in_pair(pair, q, k % size))
+        let pair = self.outline().pair_at(k / size)?;
+        Some(self.in_pair(pair, k % size))
     }
 
     /// The clause at a place behind the step's frames, if there is one.
     fn step_tail(&self, k: usize) -> Option<Shape>
-        ensures is { option_map (clause_of (length (gates_of self.now)) (property_of self.now)) result ≡ slice_get (step_tail (gates_of self.now) (property_of self.now) (depth_of self.now)) k }
-        ensures ready { Ready result }
+        ensures { option_map (clause_of (length (gates_of self.now)) (property_of self.now)) result ≡ slice_get (step_tail (gates_of self.now) (property_of self.now) (depth_of self.now)) k }
     {
-        let n = self.wires();
-        let d = self.depth();
-        let known = d * (n + 1);
+        let outline = self.outline();
+        let n = outline.wires;
+        let known = outline.depth * (n + 1);
         if k < known {
-            return Some(Shape::Short(good(n, self.board.property(), d, k)));
+            return Some(Shape::Short(outline.good(k)));
         }
         let rest = k - known;
         if rest <= 2 * n {
-            return Some(middle(n, self.board.property(), d, rest));
+            return Some(outline.middle(rest));
         }
         self.in_pairs(rest - (2 * n + 1))
     }
 
-    /// The clause at place k of the step formula, from 0, if there is one.
-    fn step_clause(&self, k: usize) -> Option<Shape>
-        ensures is { option_map (clause_of (length (gates_of self.now)) (property_of self.now)) result ≡ slice_get (step (gates_of self.now) (property_of self.now) (depth_of self.now)) k }
-        ensures ready { Ready result }
+    /// The clause at place k, from 0, if there is one.
+    fn clause(&self, k: usize) -> Option<Shape>
+        ensures { option_map (clause_of (length (gates_of self.now)) (property_of self.now)) result ≡ slice_get (clauses_of self.now) k }
     {
-        let d = self.depth();
-        let frames = self.frames_size(false, d + 1);
+        let frames = self.frames_size();
         if k < frames {
-            return short(self.in_frames(false, d + 1, k));
+            return self.in_frames(k).map(Shape::Short);
         }
-        self.step_tail(k - frames)
-    }
-
-    /// The clause at place k of the base formula, from 0, if there is one.
-    fn base_clause(&self, k: usize) -> Option<Shape>
-        ensures is { option_map (clause_of (length (gates_of self.now)) (property_of self.now)) result ≡ slice_get (base (gates_of self.now) (property_of self.now) (depth_of self.now)) k }
-        ensures ready { Ready result }
-    {
-        let d = self.depth();
-        let frames = self.frames_size(true, d);
-        if k < frames {
-            return short(self.in_frames(true, d, k));
+        match self.kind {
+            FormulaKind::Base => self.outline().base_tail(k - frames),
+            FormulaKind::Step => self.step_tail(k - frames),
         }
-        base_tail(self.wires(), self.board.property(), d, k - frames)
     }
 
     /// The clause of a number, from 1, if there is one.
     pub(crate) fn numbered(&self, number: u32) -> Option<Shape>
-        ensures is { option_map (clause_of (length (gates_of self.now)) (property_of self.now)) result ≡ numbered_of (clauses_of self.now) number }
-        ensures ready { Ready result }
+        ensures { option_map (clause_of (length (gates_of self.now)) (property_of self.now)) result ≡ numbered_of (clauses_of self.now) number }
     {
-        if number == 0 {
-            return None;
-        }
-        let k = number as usize - 1;
-        match self.kind {
-            FormulaKind::Base => self.base_clause(k),
-            FormulaKind::Step => self.step_clause(k),
-        }
+        let k = (number as usize).checked_sub(1)?;
+        self.clause(k)
     }
 }

@@ -1,35 +1,41 @@
-ghost use Rattle.std.specs.Prelude.{◌≡◌, ◌≤◌, length};
-ghost use Rattle.sources.specs.Rows.{Row, before};
-ghost use Rattle.formulas.specs.Drives.{drive};
-ghost use Rattle.sources.specs.Weights.{weight as weight_of};
+ghost use Rattle.std.specs.Prelude.{◌≡◌, ◌+◌, ◌*◌, ◌≤◌, length};
+ghost use Rattle.sources.specs.Rows.{Row};
 
 use gates::Gate;
 use wireclauses::sides::plain_size;
 
-/// What a wire adds to a row: to that of the registers, or to that of the other wires' clauses.
-fn weight(gate: Gate, registers: bool) -> u16
-    ensures is { result ≡ weight_of registers (drive gate) }
-    ensures small { result ≤ 13 }
-{
-    if !registers {
-        plain_size(gate)
-    } else if gate.is_register() {
-        1
-    } else {
-        0
+/// What stands before a wire in a frame: how many clauses, but for those of the registers, and how many registers.
+#[derive(Clone, Copy)]
+pub struct Before {
+    pub(crate) plain: u16,
+    pub(crate) registers: u16,
+}
+
+impl Before {
+    /// How many clauses that is where a register has c.
+    pub(crate) fn clauses(self, c: usize) -> usize
+        requires { c ≤ 4 }
+        ensures is { result ≡ self.plain + c * self.registers }
+        ensures small { result ≤ 400000 }
+    {
+        usize::from(self.plain) + c * usize::from(self.registers)
     }
 }
 
-/// For each wire, and for all, the sum of what the wires before it add.
-pub(crate) fn row(gates: &[Gate], registers: bool) -> [u16; 257]
+/// What stands before each wire, and before the end.
+pub(crate) fn row(gates: &[Gate]) -> [Before; 257]
     requires { length gates.now ≤ 256 }
-    ensures { Row result (length gates.now) (before registers gates.now) }
+    ensures { Row result gates.now }
 {
-    let mut row = [0u16; 257];
-    let mut sum = 0u16;
-    'wires: for w in 0..gates.len() {
-        sum += weight(gates[w], registers);
-        row[w + 1] = sum;
+    let mut before = Before {
+        plain: 0,
+        registers: 0,
+    };
+    let mut row = [before; 257];
+    'wires: for (w, gate) in gates.iter().enumerate() {
+        before.plain += plain_size(*gate);
+        before.registers += u16::from(gate.is_register());
+        row[w + 1] = before;
     }
     row
 }

@@ -1,15 +1,14 @@
 ghost use Rattle.std.specs.Prelude.{◌≡◌, ◌≤◌, length};
 ghost use Rattle.boards.specs.Sheets.{sheet};
-ghost use Rattle.formulas.specs.Formulas.{base, step};
 ghost use Rattle.clauses.specs.Clauses.{numbered};
-ghost use Rattle.sources.specs.Meaning.{gates_of, property_of, depth_of, clauses_of, variables_of};
+ghost use Rattle.sources.specs.Meaning.{tail_of, clauses_of, variables_of};
 ghost use Rattle.std.proofs.Common.{◌∙◌, ap, refl};
 
-use crate::formula::{Formula, FormulaKind};
+use crate::formula::Formula;
 use crate::rows::row;
-use crate::shape::{shape_length, shape_literal};
 use boards::Board;
 use clauses::ClauseSource;
+use formulas::FormulaKind;
 
 impl Formula {
     /// The formula of a kind of a board.
@@ -17,13 +16,11 @@ impl Formula {
         ensures board { sheet result.board ≡ sheet board }
         ensures kind { result.kind ≡ kind }
     {
-        let plain = row(board.gates(), false);
-        let registers = row(board.gates(), true);
+        let before = row(board.gates());
         Formula {
             board,
             kind,
-            plain,
-            registers,
+            before,
         }
     }
 
@@ -46,8 +43,9 @@ impl Formula {
         ensures is { result ≡ variables_of self.now }
         ensures small { result ≤ 65535 }
     {
-        let n = self.wires();
-        let d = self.depth();
+        let outline = self.outline();
+        let n = outline.wires;
+        let d = outline.depth;
         match self.kind {
             FormulaKind::Base => 2 * n * d + n * d,
             FormulaKind::Step => 2 * n * (d + 1) + n + self.register_count() * ((d + 1) * d / 2),
@@ -59,28 +57,24 @@ impl Formula {
         ensures is { result ≡ length (clauses_of self.now) }
         ensures small { result ≤ 5000000 }
     {
+        self.frames_size() + self.tail_size()
+    }
+
+    /// How many clauses there are behind the frames.
+    fn tail_size(&self) -> usize
+        ensures is { result ≡ length (tail_of self.now.kind (sheet self.now.board)) }
+        ensures small { result ≤ 1000000 }
+    {
+        let outline = self.outline();
+        let n = outline.wires;
+        let d = outline.depth;
         match self.kind {
-            FormulaKind::Base => self.base_count(),
-            FormulaKind::Step => self.step_count(),
+            FormulaKind::Base => 2 * (n * d) + 1,
+            FormulaKind::Step => {
+                let pairs = (d + 1) * d / 2;
+                d * (n + 1) + (2 * n + 1) + pairs * (2 * self.register_count() + 1)
+            }
         }
-    }
-
-    fn base_count(&self) -> usize
-        ensures is { result ≡ length (base (gates_of self.now) (property_of self.now) (depth_of self.now)) }
-        ensures small { result ≤ 5000000 }
-    {
-        let d = self.depth();
-        self.frames_size(true, d) + (2 * (self.wires() * d) + 1)
-    }
-
-    fn step_count(&self) -> usize
-        ensures is { result ≡ length (step (gates_of self.now) (property_of self.now) (depth_of self.now)) }
-        ensures small { result ≤ 5000000 }
-    {
-        let n = self.wires();
-        let d = self.depth();
-        let tail = d * (n + 1) + (2 * n + 1) + (d + 1) * d / 2 * (2 * self.register_count() + 1);
-        self.frames_size(false, d + 1) + tail
     }
 }
 
@@ -98,12 +92,12 @@ impl ClauseSource for Formula {
 
     fn length(&mut self, number: u32) -> Option<usize> {
         let shape = self.numbered(number)?;
-        Some(shape_length(shape))
+        Some(shape.length())
     }
 
     fn literal(&mut self, number: u32, at: usize) -> Option<i32> {
         let shape = self.numbered(number)?;
-        let literal = shape_literal(self.wires(), self.board.property(), shape, at)?;
-        Some(literal.number())
+        let literal = shape.literal(self.outline(), at)?;
+        Some(i32::from(literal))
     }
 }

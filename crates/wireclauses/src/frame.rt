@@ -1,8 +1,11 @@
 ghost use Rattle.std.specs.Prelude.{◌≤◌};
 
-/// A frame of so many wires, with so many frames before it.
+use formulas::FormulaKind;
+
+/// A frame of a formula, of so many wires and with so many frames before it.
 #[derive(Clone, Copy)]
 pub struct Frame {
+    pub kind: FormulaKind,
     pub wires: usize,
     pub before: usize,
     ghost few: { wires ≤ 256 },

@@ -4,28 +4,28 @@ ghost use Rattle.std.specs.List.{slice_get};
 ghost use Rattle.wireclauses.specs.Literals.{literal_of, few_of};
 
 /// A variable, by its number less one, or its negative.
-#[derive(Clone, Copy)]
+#[derive(Clone, Copy, PartialEq, Eq, Debug)]
 pub enum Literal {
     Plus(u16),
     Minus(u16),
 }
 
 /// A clause of few literals.
-#[derive(Clone, Copy)]
+#[derive(Clone, Copy, PartialEq, Eq, Debug)]
 pub enum Few {
     One(Literal),
     Two(Literal, Literal),
     Three(Literal, Literal, Literal),
 }
 
-impl Literal {
-    /// The literal as a whole number: its variable's number, or the negative of that.
-    pub fn number(self) -> i32
-        ensures { result ≡ literal_of self }
-    {
-        match self {
-            Literal::Plus(x) => x as i32 + 1,
-            Literal::Minus(x) => -1 - (x as i32),
+/// A literal as a whole number is its variable's number, or the negative of that.
+impl From<Literal> for i32 {
+    ghost from_gives = { λ literal number. number ≡ literal_of literal };
+
+    fn from(literal: Literal) -> i32 {
+        match literal {
+            Literal::Plus(x) => i32::from(x) + 1,
+            Literal::Minus(x) => -1 - i32::from(x),
         }
     }
 }

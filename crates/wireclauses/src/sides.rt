@@ -1,7 +1,9 @@
-ghost use Rattle.std.specs.Prelude.{◌≡◌, ◌≤◌};
+ghost use Rattle.std.specs.Prelude.{◌≡◌, ℕ, ◌+◌, ◌*◌, ◌≤◌, Bool, ◌∷◌, length};
+ghost use Rattle.values.specs.Sides.{Rail as SpecRail};
 ghost use Rattle.formulas.specs.Drives.{drive as spec_drive};
+ghost use Rattle.formulas.specs.Formulas.{equation, apart, driven};
 ghost use Rattle.wireclauses.specs.Sides.{right_of, drive_of};
-ghost use Rattle.wireclauses.specs.Sizes.{right_size, plain_size, register_size};
+ghost use Rattle.wireclauses.specs.Sizes.{right_size, plain_size, register_size, one_if};
 
 use gates::Gate;
 
@@ -72,13 +74,13 @@ pub(crate) fn gate_drive(gate: Gate) -> Drive
 
 /// How many clauses the equation of a rail with this right side has.
 pub(crate) fn right_size(right: Right) -> usize
-    ensures { result ≡ right_size (right_of right) }
+    ensures is { result ≡ right_size (right_of right) }
+    ensures counts { (x : SpecRail ℕ → ℕ) (a : ℕ) → result ≡ length (equation x a (right_of right)) }
 {
     match right {
         Right::Fixed(_) => 1,
         Right::Same(_) => 2,
-        Right::Either(_, _) => 3,
-        Right::Both(_, _) => 3,
+        Right::Either(_, _) | Right::Both(_, _) => 3,
         Right::TwoBoths(_, _, _, _) => 6,
     }
 }
@@ -87,6 +89,7 @@ pub(crate) fn right_size(right: Right) -> usize
 pub fn plain_size(gate: Gate) -> u16
     ensures is { result ≡ plain_size (spec_drive gate) }
     ensures small { result ≤ 13 }
+    ensures counts { (starts : Bool) (n i w : ℕ) → length (apart n i w ∷ driven starts n i w (spec_drive gate)) ≡ result + register_size starts i * one_if (spec_drive gate) }
 {
     match gate {
         Gate::Register(_) => 0,
@@ -95,19 +98,5 @@ pub fn plain_size(gate: Gate) -> u16
         Gate::Copy(_) | Gate::Not(_) => 5,
         Gate::And(_, _) | Gate::Or(_, _) | Gate::Implies(_, _) => 7,
         Gate::Xor(_, _) => 13,
-    }
-}
-
-/// How many clauses a register has in a frame with so many before it; `starts` says whether this is the base.
-pub fn register_size(starts: bool, before: usize) -> usize
-    ensures is { result ≡ register_size starts before }
-    ensures small { result ≤ 4 }
-{
-    if before > 0 {
-        4
-    } else if starts {
-        3
-    } else {
-        2
     }
 }

@@ -1,18 +1,36 @@
-ghost use Rattle.std.specs.Prelude.{◌≡◌, ◌+◌, ◌*◌, ◌≤◌, ◌∷◌};
+ghost use Rattle.std.specs.Prelude.{◌≡◌, ℕ, ◌+◌, ◌*◌, ◌≤◌, ◌∷◌, ◌++◌, length};
 ghost use Rattle.std.specs.Option.{option_map};
 ghost use Rattle.std.specs.List.{slice_get};
-ghost use Rattle.values.specs.Sides.{rail0 as rail_a};
-ghost use Rattle.formulas.specs.Drives.{drive as spec_drive};
-ghost use Rattle.formulas.specs.Formulas.{rail_var, equation as equation_of, held as held_of, apart, driven as driven_of};
+ghost use Rattle.values.specs.Sides.{rail0 as rail_a, rail1 as rail_b};
+ghost use Rattle.formulas.specs.Kinds.{starts};
+ghost use Rattle.formulas.specs.Drives.{register, drive as spec_drive};
+ghost use Rattle.formulas.specs.Formulas.{rail_var, equation as equation_of, held as held_of, apart, defined, driven as driven_of};
 ghost use Rattle.wireclauses.specs.Literals.{few_of};
+ghost use Rattle.wireclauses.specs.Sizes.{register_size};
 ghost use Rattle.wireclauses.specs.Sides.{rail_of, right_of, drive_of, fixed_clauses, same_clauses, either_clauses, both_clauses, two_boths_clauses};
 
 use crate::frame::Frame;
 use crate::literals::{Few, Literal};
 use crate::sides::{Drive, Rail, Right, gate_drive, right_size};
+use formulas::FormulaKind;
 use gates::Gate;
 
 impl Frame {
+    /// How many clauses a register has in the frame.
+    pub fn register_size(self) -> usize
+        ensures is { result ≡ register_size (starts self.kind) self.before }
+        ensures small { result ≤ 4 }
+        ensures counts { (w y : ℕ) → result ≡ length (apart self.wires self.before w ∷ driven_of (starts self.kind) self.wires self.before w (register y)) }
+    {
+        if self.before > 0 {
+            return 4;
+        }
+        match self.kind {
+            FormulaKind::Base => 3,
+            FormulaKind::Step => 2,
+        }
+    }
+
     /// The variable of a wire's rail 0; that of its rail 1 is the next.
     pub fn rail0(self, wire: u8) -> u16
         ensures is { result ≡ rail_var self.wires self.before (rail_a wire) }
@@ -29,6 +47,22 @@ impl Frame {
             Rail::Rail0(wire) => self.rail0(wire),
             Rail::Rail1(wire) => self.rail0(wire) + 1,
         }
+    }
+
+    /// The clause that not both rails of a wire are up.
+    pub fn apart(self, wire: u8) -> Few
+        ensures { few_of result ≡ apart self.wires self.before wire }
+    {
+        let a = self.rail0(wire);
+        Few::Two(Literal::Minus(a), Literal::Minus(a + 1))
+    }
+
+    /// The clause that a wire is defined: that some rail of it is up.
+    pub fn defined(self, wire: u8) -> Few
+        ensures { few_of result ≡ defined self.wires self.before wire }
+    {
+        let a = self.rail0(wire);
+        Few::Two(Literal::Plus(a), Literal::Plus(a + 1))
     }
 }
 
@@ -116,61 +150,57 @@ fn equation(frame: Frame, a: u16, right: Right, j: usize) -> Option<Few>
 }
 
 /// The clause at place j of what a register starts with, or takes over from its source y in the frame before.
-fn held(starts: bool, frame: Frame, w: u8, y: u8, j: usize) -> Option<Few>
-    ensures { option_map few_of result ≡ slice_get (held_of starts frame.wires frame.before w y) j }
+fn held(frame: Frame, w: u8, y: u8, j: usize) -> Option<Few>
+    ensures { option_map few_of result ≡ slice_get (held_of (starts frame.kind) frame.wires frame.before w y) j }
 {
     let a = frame.rail0(w);
     if frame.before > 0 {
         let earlier = Frame {
+            kind: frame.kind,
             wires: frame.wires,
             before: frame.before - 1,
         };
-        same(a, earlier.rail0(y), j)
-    } else if starts {
-        fixed(a, true, j)
+        return same(a, earlier.rail0(y), j);
+    }
+    match frame.kind {
+        FormulaKind::Base => fixed(a, true, j),
+        FormulaKind::Step => None,
+    }
+}
+
+/// The clause at place j of the equations of the two rails of wire w.
+fn settled(frame: Frame, w: u8, r: Right, s: Right, j: usize) -> Option<Few>
+    ensures { let x = rail_var frame.wires frame.before in
+        option_map few_of result ≡ slice_get (equation_of x (x (rail_a w)) (right_of r) ++ equation_of x (x (rail_b w)) (right_of s)) j }
+{
+    let a = frame.rail0(w);
+    let size = right_size(r);
+    if j < size {
+        equation(frame, a, r, j)
     } else {
-        None
+        equation(frame, a + 1, s, j - size)
     }
 }
 
 /// The clause at place j of what drives wire w.
-fn driven(starts: bool, frame: Frame, w: u8, by: Drive, j: usize) -> Option<Few>
-    ensures { option_map few_of result ≡ slice_get (driven_of starts frame.wires frame.before w (drive_of by)) j }
+fn driven(frame: Frame, w: u8, by: Drive, j: usize) -> Option<Few>
+    ensures { option_map few_of result ≡ slice_get (driven_of (starts frame.kind) frame.wires frame.before w (drive_of by)) j }
 {
-    let a = frame.rail0(w);
     match by {
-        Drive::Settled(r, s) => {
-            let size = right_size(r);
-            if j < size {
-                equation(frame, a, r, j)
-            } else {
-                equation(frame, a + 1, s, j - size)
-            }
-        }
-        Drive::Input => {
-            if j > 0 {
-                None
-            } else {
-                Some(Few::Two(Literal::Plus(a), Literal::Plus(a + 1)))
-            }
-        }
-        Drive::Register(y) => {
-            if j > 0 {
-                held(starts, frame, w, y, j - 1)
-            } else {
-                Some(Few::Two(Literal::Plus(a), Literal::Plus(a + 1)))
-            }
-        }
+        Drive::Settled(r, s) => settled(frame, w, r, s, j),
+        Drive::Input if j > 0 => None,
+        Drive::Register(y) if j > 0 => held(frame, w, y, j - 1),
+        Drive::Input | Drive::Register(_) => Some(frame.defined(w)),
     }
 }
 
-/// The clause at place j of the clauses of wire w in a frame, if there is one; `starts` says whether this is the base.
-pub fn wire_clause(starts: bool, frame: Frame, w: u8, gate: Gate, j: usize) -> Option<Few>
-    ensures { option_map few_of result ≡ slice_get (apart frame.wires frame.before w ∷ driven_of starts frame.wires frame.before w (spec_drive gate)) j }
+/// The clause at place j of the clauses of wire w in a frame, if there is one.
+pub fn wire_clause(frame: Frame, w: u8, gate: Gate, j: usize) -> Option<Few>
+    ensures { option_map few_of result ≡ slice_get (apart frame.wires frame.before w ∷ driven_of (starts frame.kind) frame.wires frame.before w (spec_drive gate)) j }
 {
     if j > 0 {
-        return driven(starts, frame, w, gate_drive(gate), j - 1);
+        driven(frame, w, gate_drive(gate), j - 1)
+    } else {
+        Some(frame.apart(w))
     }
-    let a = frame.rail0(w);
-    Some(Few::Two(Literal::Minus(a), Literal::Minus(a + 1)))
 }

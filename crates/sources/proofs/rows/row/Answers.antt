@@ -1,8 +1,15 @@
-use Rattle.std.proofs.Common.{refl, arith}
-use Rattle.sources.proofs.Ranks.{sum_more, row_set}
+use Rattle.std.proofs.Common.{ap, ◌∙◌, arith}
+use Rattle.std.specs.Int.{from_bool}
+use Rattle.sources.proofs.Ranks.{row_set, counts_more, from_bool_small}
 use Rattle.sources.proofs.rows.row.Goals as goal
 
 pub wires-preserved : goal.wires-preserved
 wires-preserved c =
-    let sum = sum_more c.args.registers c.args.gates.now c.wires.w c.wires.sum c.weight-sum.result _ c.wires.invariant.1 c.wires-test.true c.weight-sum.ensures.is in
-    (row_set _ _ _ _ _ c.wires.invariant.0 (omega arith) refl sum, sum, omega arith)
+    let more = counts_more c.args.gates.now c.wires.w c.wires.before _ _ c.wires.invariant.counts c.wires-test.true c.plain_size.ensures.is (c.from.ensures ∙ ap from_bool c.is_register.ensures) in
+    let one = from_bool_small c.is_register.result in
+    record {
+      row = row_set _ _ _ _ c.wires.invariant.row (omega arith) more;
+      counts = more;
+      plain = omega arith;
+      registers = omega arith;
+    }
