@@ -2,11 +2,7 @@
 use Rattle.std.specs.Prelude.{ℕ, List, ◌++◌, codes}
 use Rattle.decimals.specs.Decimals.{text_of}
 use Rattle.formulas.specs.declared.kind.FormulaKind.{FormulaKind}
-use Rattle.formulas.specs.declared.kind.FormulaKind.TheVariants.{Base, Step}
-
-abbrev pub kind_name : FormulaKind → List ℕ
-kind_name Base = codes "base"
-kind_name Step = codes "step"
+use Rattle.formulas.specs.Kinds.{kind_name}
 
 -- `base 3 6`: the numbers of variables and of clauses
 abbrev pub formula_line : FormulaKind → ℕ → ℕ → List ℕ

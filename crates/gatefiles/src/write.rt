@@ -13,6 +13,7 @@ use refusals::Refusal;
 /// The kind that ends a gate file, before the property wire and the depth.
 pub(crate) const ENDING: u8 = 15;
 
+/// Puts the record of a gate into the sink.
 fn put_record<S: Sink>(out: &mut S, gate: Gate)
     ensures { S.takes out.old (record_of gate) out.new }
 {
