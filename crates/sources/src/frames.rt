@@ -17,6 +17,7 @@ use wireclauses::Few;
 use wireclauses::wire::wire_clause;
 
 impl Formula {
+    /// Its kind, and what its board says beside the gates.
     pub(crate) fn outline(&self) -> Outline
         ensures kind { result.kind ≡ self.now.kind }
         ensures wires { result.wires ≡ length (gates_of self.now) }
@@ -72,6 +73,7 @@ impl Formula {
             .partition_point(|before| usize::from(before.registers) <= rank)
     }
 
+    /// How many registers there are.
     pub(crate) fn register_count(&self) -> usize
         ensures is { result ≡ registers_before (gates_of self.now) (length (gates_of self.now)) }
         ensures small { result ≤ 256 }

@@ -66,7 +66,8 @@ impl Frame {
     }
 }
 
-// The clause at place j of a = t; of a = b; of a = b or c; of a = b and c; of a = (b and c) or (e and f).
+// The clause at place j of a = t; of a = b; of a = b or c; of a = b and c; of a = (b and c) or (e and f). Only the one that is
+// asked for is made.
 
 fn fixed(a: u16, t: bool, j: usize) -> Option<Few>
     ensures { option_map few_of result ≡ slice_get (fixed_clauses a t) j }
