@@ -1,4 +1,5 @@
-ghost use Rattle.std.specs.Prelude.{◌<◌, ◌≤◌};
+ghost use Rattle.std.specs.Prelude.{◌≡◌, ◌<◌, ◌≤◌};
+ghost use Rattle.formulas.specs.Formulas.{pairs_before as pairs_before_of};
 
 use crate::outline::Outline;
 use wireclauses::{Few, Literal};
@@ -12,16 +13,25 @@ pub struct Pair {
     ghost shallow: { late ≤ 8 },
 }
 
+/// How many pairs of frames have their later one before this frame.
+pub(crate) fn pairs_before(frame: usize) -> usize
+    requires { frame ≤ 9 }
+    ensures is { result ≡ pairs_before_of frame }
+    ensures small { result ≤ 36 }
+{
+    frame * frame.saturating_sub(1) / 2
+}
+
 impl Pair {
     ghost use Rattle.std.specs.Prelude.{◌≡◌, ◌+◌, ◌≤◌};
-    ghost use Rattle.formulas.specs.Formulas.{pairs_before};
+    ghost use Rattle.formulas.specs.Formulas.{pairs_before as pairs_before_of};
 
     /// How many pairs come before this one.
     pub(crate) fn rank(self) -> usize
-        ensures is { result ≡ pairs_before self.late + self.early }
+        ensures is { result ≡ pairs_before_of self.late + self.early }
         ensures small { result ≤ 72 }
     {
-        self.late * (self.late - 1) / 2 + self.early
+        pairs_before(self.late) + self.early
     }
 }
 
@@ -35,7 +45,7 @@ impl Outline {
     fn late_frame(self, q: usize) -> Option<usize>
         ensures { LateAt self.depth q result }
     {
-        (1..self.depth + 1).find(|late| q < *late * (*late + 1) / 2)
+        (1..self.depth + 1).find(|late| q < pairs_before(*late + 1))
     }
 
     /// The q-th pair of frames, if there is one.
@@ -44,7 +54,7 @@ impl Outline {
     {
         let late = self.late_frame(q)?;
         Some(Pair {
-            early: q - late * (late - 1) / 2,
+            early: q - pairs_before(late),
             late,
         })
     }
