@@ -1,5 +1,5 @@
 -- How many clauses the formulas have behind their frames.
-use Rattle.std.proofs.Common.{◌≡◌, ℕ, ◌+◌, ◌-◌, ◌*◌, ◌/◌, ◌++◌, length, sym, ap, ◌∙◌, arith, length-append}
+use Rattle.std.proofs.Common.{◌≡◌, ℕ, ◌+◌, ◌*◌, ◌++◌, length, sym, ap, ◌∙◌, arith, length-append}
 use Rattle.boards.specs.Sheets.{Sheet}
 use Rattle.formulas.specs.declared.kind.FormulaKind.TheVariants.{Base, Step}
 use Rattle.formulas.specs.Formulas.{step_good, step_pairs, pairs_before}
@@ -24,11 +24,10 @@ module _ (s : Sheet) where
       let inner = length-append (step_middle n s.property s.depth) (step_pairs s.gates s.depth) in
       omega (arith, good, middle, pairs, outer, inner)
 
-  pub step_counted : (n d m : ℕ) → n ≡ length s.gates → d ≡ s.depth → m ≡ registers_before s.gates (length s.gates)
-      → d * (n + 1) + (2 * n + 1) + (d + 1) * d / 2 * (2 * m + 1) ≡ length (tail_of Step s)
-  step_counted n d m a b e =
-      let here : d ≡ d + 1 - 1 = omega arith in
-      let pairs : (d + 1) * d / 2 ≡ pairs_before (s.depth + 1) = ap (λ x. (d + 1) * x / 2) here ∙ ap (λ x. pairs_before (x + 1)) b in
+  pub step_counted : (n d m q : ℕ) → n ≡ length s.gates → d ≡ s.depth → m ≡ registers_before s.gates (length s.gates) → q ≡ pairs_before (d + 1)
+      → d * (n + 1) + (2 * n + 1) + q * (2 * m + 1) ≡ length (tail_of Step s)
+  step_counted n d m q a b e p =
+      let pairs : q ≡ pairs_before (s.depth + 1) = p ∙ ap (λ x. pairs_before (x + 1)) b in
       ap (λ x. d * (n + 1) + (2 * n + 1) + x * (2 * m + 1)) pairs
       ∙ (ap (λ x. x * (n + 1) + (2 * n + 1) + pairs_before (s.depth + 1) * (2 * m + 1)) b
       ∙ (ap (λ x. s.depth * (x + 1) + (2 * x + 1) + pairs_before (s.depth + 1) * (2 * m + 1)) a

@@ -6,8 +6,6 @@ use Rattle.gates.specs.declared.gate.Gate.{Gate}
 use Rattle.values.specs.Sides.{Right, fixed, one, either, both, two_boths}
 use Rattle.clauses.specs.Clauses.{Clause, across}
 use Rattle.clauses.proofs.Blocks.{length_blocks, nth_blocks}
-use Rattle.formulas.specs.declared.kind.FormulaKind.{FormulaKind}
-use Rattle.formulas.specs.Kinds.{starts}
 use Rattle.formulas.specs.Drives.{Drive, input, register, settled, drive, driver}
 use Rattle.formulas.specs.Formulas.{apart, driven, frame_clauses}
 use Rattle.wireclauses.specs.Sizes.{right_size, plain_size, register_size, one_if}
@@ -69,9 +67,9 @@ module _ (starts : Bool) (gs : List Gate) where
       ∙ (ap (λ x. slice_get (apart (length gs) i w ∷ driven starts (length gs) i w x) (k - place gs (register_size starts i) w)) who
       ∙ sym (nth_blocks (block starts gs i) (place gs (register_size starts i)) (place_none starts gs i) (place_more starts gs i) (length gs) w k l low high))))
 
-  pub turn_wire : (n i k c w at : ℕ) (g : Gate) (o : Option Clause) (b : Bool) (j : ℕ) → b ≡ starts → j ≡ i → c ≡ register_size b j → w < length gs → place gs c w ≤ k → k < place gs c (w + 1) → drive g ≡ driver gs w → at ≡ place gs c w → n ≡ length gs → o ≡ slice_get (apart n j w ∷ driven b n j w (drive g)) (k - at) → o ≡ slice_get (frame_clauses starts gs i) k
+  pub turn_wire : (n i k c w at : ℕ) (g : Gate) (o : Option Clause) (b : Bool) (j : ℕ) → b ≡ starts → j ≡ i → c ≡ register_size starts i → w < length gs → place gs c w ≤ k → k < place gs c (w + 1) → drive g ≡ driver gs w → at ≡ place gs c w → n ≡ length gs → o ≡ slice_get (apart n j w ∷ driven b n j w (drive g)) (k - at) → o ≡ slice_get (frame_clauses starts gs i) k
   turn_wire n i k c w at g o b j bs ji e l low high who m z said =
-      wire_here n i k c w at g o (e ∙ (ap (λ y. register_size y j) bs ∙ ap (register_size starts) ji)) l low high who m z
+      wire_here n i k c w at g o e l low high who m z
       (said ∙ (ap (λ y. slice_get (apart n j w ∷ driven y n j w (drive g)) (k - at)) bs ∙ ap (λ y. slice_get (apart n y w ∷ driven starts n y w (drive g)) (k - at)) ji))
 
   -- the code's two ways to a frame
@@ -117,10 +115,6 @@ module _ (starts : Bool) (gs : List Gate) where
   pub size_is : (n first later : ℕ) → first ≡ place gs (register_size starts 0) (length gs) → later ≡ place gs 4 (length gs) → (n ≡ 0 → ⊥) → first + (n - 1) * later ≡ frame_place starts gs n
   size_is zero first later f g h = absurd (h refl)
   size_is (suc n) first later f g h = (let e : suc n - 1 ≡ n = omega arith in ap (λ x. first + x * later) e) ∙ cc (f, g)
-
--- how many clauses a register has in the first frame
-pub first_size : (c i : ℕ) (k e : FormulaKind) → {f : FormulaKind} → c ≡ register_size (starts f) i → f ≡ k → k ≡ e → i ≡ 0 → c ≡ register_size (starts e) 0
-first_size c i k e {f} s a b z = s ∙ (ap (λ x. register_size (starts x) i) (a ∙ b) ∙ ap (register_size (starts e)) z)
 
 -- at the last wire
 pub at_end : (gs : List Gate) (c c' m f : ℕ) → c ≡ c' → m ≡ length gs → f ≡ place gs c m → f ≡ place gs c' (length gs)

@@ -1,5 +1,5 @@
 -- The later frame of a pair, found among the frames one after the other.
-use Rattle.std.proofs.Common.{◌≡◌, ℕ, zero, suc, ◌+◌, ◌-◌, ◌*◌, ◌/◌, ◌<◌, ◌≤◌, length, Some, None, Option, sym, ap, ◌∙◌, subst, add-one, arith}
+use Rattle.std.proofs.Common.{◌≡◌, ℕ, zero, suc, ◌+◌, ◌<◌, ◌≤◌, length, Some, None, Option, sym, ap, ◌∙◌, subst, add-one, arith}
 use Rattle.std.specs.List.{range_with_len, AllWithin, HoldsAt}
 use Rattle.std.specs.Option.{MatchOption}
 use Rattle.std.proofs.lemmas.List.FromFn.{get_or-range_with_len, length-range_with_len}
@@ -7,35 +7,28 @@ use Rattle.formulas.specs.Formulas.{pairs_before}
 use Rattle.formulas.proofs.Pairs.{pairs_more}
 use Rattle.sources.specs.Places.{LateAt}
 
--- how many pairs have a later frame up to this one
-abbrev pub pairs_to : ℕ → ℕ
-pairs_to late = late * (late + 1) / 2
-
-pairs_to_is : (late : ℕ) → pairs_to late ≡ pairs_before (late + 1)
-pairs_to_is late = let e : late ≡ late + 1 - 1 = omega arith in let m : late * (late + 1) ≡ (late + 1) * late = omega arith in ap (λ x. x / 2) m ∙ ap (λ x. (late + 1) * x / 2) e
-
-next : (late : ℕ) → pairs_to late ≡ pairs_before late + late
-next late = pairs_to_is late ∙ (ap pairs_before (add-one late) ∙ pairs_more late)
+next : (late : ℕ) → pairs_before (late + 1) ≡ pairs_before late + late
+next late = ap pairs_before (add-one late) ∙ pairs_more late
 
 module _ (d q : ℕ) (some : 1 ≤ d) where
-  passed : (i : ℕ) → i < d → AllWithin (λ j. pairs_to j ≤ q) (range_with_len 1 d) 0 (suc i) → pairs_to (1 + i) ≤ q
-  passed i l h = subst (λ x. pairs_to x ≤ q) (get_or-range_with_len 1 d i 0 l) (h i 0 (omega arith) (omega arith))
+  passed : (i : ℕ) → i < d → AllWithin (λ j. pairs_before (j + 1) ≤ q) (range_with_len 1 d) 0 (suc i) → pairs_before (1 + i + 1) ≤ q
+  passed i l h = subst (λ x. pairs_before (x + 1) ≤ q) (get_or-range_with_len 1 d i 0 l) (h i 0 (omega arith) (omega arith))
 
-  before_first : (i : ℕ) → i < d → AllWithin (λ j. pairs_to j ≤ q) (range_with_len 1 d) 0 i → pairs_before (1 + i) ≤ q
+  before_first : (i : ℕ) → i < d → AllWithin (λ j. pairs_before (j + 1) ≤ q) (range_with_len 1 d) 0 i → pairs_before (1 + i) ≤ q
   before_first zero l h = omega arith
   before_first (suc i) l h =
       let e : 1 + i + 1 ≡ 1 + suc i = omega arith in
-      subst (λ x. x ≤ q) (pairs_to_is (1 + i) ∙ ap pairs_before e) (passed i (omega arith) h)
+      subst (λ x. x ≤ q) (ap pairs_before e) (passed i (omega arith) h)
 
-  none_left : (n : ℕ) → d ≡ n → AllWithin (λ j. pairs_to j ≤ q) (range_with_len 1 d) 0 n → pairs_before (d + 1) ≤ q
+  none_left : (n : ℕ) → d ≡ n → AllWithin (λ j. pairs_before (j + 1) ≤ q) (range_with_len 1 d) 0 n → pairs_before (d + 1) ≤ q
   none_left zero e h = absurd (omega arith)
   none_left (suc n) e h =
       let m : 1 + n ≡ d = omega arith in
-      subst (λ x. x ≤ q) (pairs_to_is (1 + n) ∙ ap (λ x. pairs_before (x + 1)) m) (passed n (omega arith) h)
+      subst (λ x. x ≤ q) (ap (λ x. pairs_before (x + 1)) m) (passed n (omega arith) h)
 
   pub late_found : (r : Option ℕ)
-      → MatchOption r (AllWithin (λ j. pairs_to j ≤ q) (range_with_len 1 d) 0 (length (range_with_len 1 d)))
-      (λ x. (q < pairs_to x) × (i : ℕ) × (i < length (range_with_len 1 d)) × HoldsAt (λ y. y ≡ x) (range_with_len 1 d) i × AllWithin (λ j. pairs_to j ≤ q) (range_with_len 1 d) 0 i)
+      → MatchOption r (AllWithin (λ j. pairs_before (j + 1) ≤ q) (range_with_len 1 d) 0 (length (range_with_len 1 d)))
+      (λ x. (q < pairs_before (x + 1)) × (i : ℕ) × (i < length (range_with_len 1 d)) × HoldsAt (λ y. y ≡ x) (range_with_len 1 d) i × AllWithin (λ j. pairs_before (j + 1) ≤ q) (range_with_len 1 d) 0 i)
       → LateAt d q r
   late_found None h = none_left (length (range_with_len 1 d)) (sym (length-range_with_len 1 d)) h
   late_found (Some late) h =

@@ -1,13 +1,13 @@
 -- Registers are counted wire by wire, and the two rows hold the counts.
-use Rattle.std.proofs.Common.{◌≡◌, ℕ, zero, suc, ◌+◌, ◌<◌, ◌≤◌, Bool, true, false, cond, List, length, get_or, set, replicate, count_by, sym, refl, ap, ◌∙◌, subst, ⊎_elim, add-one, arith}
-use Rattle.std.proofs.lemmas.List.{get_or_past, get_or-set_same, get_or-set_other, get_or-replicate, length-set, length-replicate, take_all}
+use Rattle.std.proofs.Common.{◌≡◌, ℕ, zero, suc, ◌+◌, ◌<◌, ◌≤◌, Bool, true, false, cond, List, length, get_or, set, count_by, sym, refl, ap, ◌∙◌, subst, ⊎_elim, add-one, arith}
+use Rattle.std.proofs.lemmas.List.{get_or_past, get_or-set_same, get_or-set_other, length-set, take_all}
 use Rattle.std.proofs.lemmas.Bool.{cases_lt}
 use Rattle.std.specs.Int.{from_bool}
 use Rattle.gates.specs.declared.gate.Gate.{Gate}
 use Rattle.gates.specs.declared.gate.Gate.TheVariants.{Input, Zero, One, Copy, Not, And, Or, Implies, Xor, Register}
 use Rattle.gates.specs.Gates.{is_register}
 use Rattle.gates.proofs.Counting.{count_turn}
-use Rattle.formulas.specs.Drives.{Drive, input, register, settled, drive, driver}
+use Rattle.formulas.specs.Drives.{drive, driver}
 use Rattle.wireclauses.specs.Sizes.{plain_size, one_if}
 use Rattle.sources.specs.declared.rows.Before.{Before}
 use Rattle.sources.specs.Rows.{plain_before, registers_before, CountsBefore, RowUpTo}
@@ -34,15 +34,6 @@ rank_more gs w =
     omega (arith, a, b))
     (cases_lt w (length gs))
 
-one_small : (g : Drive) → one_if g ≤ 1
-one_small input = omega arith
-one_small (register y) = omega arith
-one_small (settled s) = omega arith
-
-pub registers_small : (gs : List Gate) (w : ℕ) → registers_before gs w ≤ w
-registers_small gs zero = omega arith
-registers_small gs (suc w) = omega (arith, registers_small gs w, rank_more gs w, one_small (driver gs w))
-
 -- the counts rise from wire to wire
 pub plain_up : (gs : List Gate) (w v : ℕ) → w ≤ v → plain_before gs w ≤ plain_before gs v
 plain_up gs w zero h = let e : w ≡ 0 = omega arith in subst (λ x. plain_before gs x ≤ plain_before gs 0) (sym e) (omega arith)
@@ -60,12 +51,7 @@ registers_up gs w (suc v) h =
     (λ l. let e : w ≡ suc v = omega arith in subst (λ x. registers_before gs x ≤ registers_before gs (suc v)) (sym e) (omega arith))
     (cases_lt w (suc v))
 
--- a row as far as it has been counted
-pub row_start : (xs : List Before) (gs : List Gate) (b : Before) → xs ≡ replicate 257 b → CountsBefore gs 0 b → RowUpTo xs gs 0
-row_start xs gs b e h =
-    subst (λ zs. RowUpTo zs gs 0) (sym e)
-    (length-replicate 257 b, λ w d l. let at : w ≡ 0 = omega arith in subst (CountsBefore gs w) (sym (get_or-replicate 257 w b d (omega arith))) (subst (λ x. CountsBefore gs x b) (sym at) h))
-
+-- a row that has been counted one wire further
 pub row_set : (xs : List Before) (gs : List Gate) (i : ℕ) (b : Before) → RowUpTo xs gs i → i < 256 → CountsBefore gs (i + 1) b → RowUpTo (set xs (i + 1) b) gs (i + 1)
 row_set xs gs i b row few h = (
   length-set xs (i + 1) b ∙ row.0,

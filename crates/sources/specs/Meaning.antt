@@ -7,7 +7,8 @@ use Rattle.formulas.specs.Formulas.{base, step, base_variables, step_variables}
 use Rattle.formulas.specs.declared.kind.FormulaKind.{FormulaKind}
 use Rattle.formulas.specs.declared.kind.FormulaKind.TheVariants.{Base, Step}
 use Rattle.sources.specs.declared.formula.Formula.{Formula}
-use Rattle.sources.specs.Places.{base_tail, step_tail}
+use Rattle.sources.specs.declared.shape.Shape.{Shape}
+use Rattle.sources.specs.Places.{clause_of, base_tail, step_tail}
 
 abbrev pub formula_clauses : FormulaKind → Sheet → List Clause
 formula_clauses Base s = base s.gates s.property s.depth
@@ -30,6 +31,10 @@ property_of f = (sheet f.board).property
 
 abbrev pub depth_of : Formula → ℕ
 depth_of f = (sheet f.board).depth
+
+-- what a clause says that is handed over
+abbrev pub clause_in : Formula → Shape → Clause
+clause_in f = clause_of (length (gates_of f)) (property_of f)
 
 abbrev pub clauses_of : Formula → List Clause
 clauses_of f = formula_clauses f.kind (sheet f.board)

@@ -14,9 +14,11 @@ use crate::formula::Formula;
 use crate::outline::Outline;
 use crate::rows::Before;
 use wireclauses::Few;
+use wireclauses::sides::register_size;
 use wireclauses::wire::wire_clause;
 
 impl Formula {
+    /// Its kind, and what its board says beside the gates.
     pub(crate) fn outline(&self) -> Outline
         ensures kind { result.kind ≡ self.now.kind }
         ensures wires { result.wires ≡ length (gates_of self.now) }
@@ -72,6 +74,7 @@ impl Formula {
             .partition_point(|before| usize::from(before.registers) <= rank)
     }
 
+    /// How many registers there are.
     pub(crate) fn register_count(&self) -> usize
         ensures is { result ≡ registers_before (gates_of self.now) (length (gates_of self.now)) }
         ensures small { result ≤ 256 }
@@ -86,7 +89,7 @@ impl Formula {
         ensures { option_map few_of result ≡ slice_get (frame_clauses (starts self.now.kind) (gates_of self.now) i) k }
     {
         let frame = self.outline().frame(i);
-        let c = frame.register_size();
+        let c = register_size(self.kind, i);
         let w = self.find(c, k);
         let gate = self.board.gates()[w];
         wire_clause(frame, w as u8, gate, k - self.place(c, w))
@@ -98,7 +101,7 @@ impl Formula {
         ensures small { result ≤ 4000000 }
     {
         let outline = self.outline();
-        let first = self.place(outline.frame(0).register_size(), outline.wires);
+        let first = self.place(register_size(self.kind, 0), outline.wires);
         first + (outline.frames() - 1) * self.place(4, outline.wires)
     }
 
@@ -108,7 +111,7 @@ impl Formula {
         ensures { option_map few_of result ≡ slice_get (across (frames_of self.now.kind (depth_of self.now)) (frame_clauses (starts self.now.kind) (gates_of self.now))) k }
     {
         let outline = self.outline();
-        let first = self.place(outline.frame(0).register_size(), outline.wires);
+        let first = self.place(register_size(self.kind, 0), outline.wires);
         if k < first {
             return self.in_frame(0, k);
         }

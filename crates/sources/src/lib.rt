@@ -4,7 +4,6 @@
 
 pub mod formula;
 mod frames;
-mod literals;
 mod locate;
 mod outline;
 mod pairs;

@@ -4,8 +4,8 @@ ghost use Rattle.std.specs.List.{slice_get};
 ghost use Rattle.clauses.specs.Clauses.{numbered as numbered_of};
 ghost use Rattle.formulas.specs.Formulas.{pair_clauses, step_pairs, pairs_before};
 ghost use Rattle.sources.specs.Rows.{registers_before};
-ghost use Rattle.sources.specs.Places.{clause_of, step_tail, first_difference};
-ghost use Rattle.sources.specs.Meaning.{gates_of, property_of, depth_of, clauses_of};
+ghost use Rattle.sources.specs.Places.{step_tail, first_difference};
+ghost use Rattle.sources.specs.Meaning.{gates_of, property_of, depth_of, clauses_of, clause_in};
 
 use crate::formula::Formula;
 use crate::pairs::Pair;
@@ -26,7 +26,7 @@ impl Formula {
     /// The clause at place r of a pair of frames.
     fn in_pair(&self, pair: Pair, r: usize) -> Shape
         requires { r ≤ 2 * registers_before (gates_of self.now) (length (gates_of self.now)) }
-        ensures { Some (clause_of (length (gates_of self.now)) (property_of self.now) result) ≡ slice_get (pair_clauses (gates_of self.now) (depth_of self.now) pair.early pair.late) r }
+        ensures { Some (clause_in self.now result) ≡ slice_get (pair_clauses (gates_of self.now) (depth_of self.now) pair.early pair.late) r }
     {
         let first = self.first_difference(pair);
         let marks = self.register_count();
@@ -46,7 +46,7 @@ impl Formula {
 
     /// The clause at a place of the step's pairs of frames, if there is one.
     fn in_pairs(&self, k: usize) -> Option<Shape>
-        ensures { option_map (clause_of (length (gates_of self.now)) (property_of self.now)) result ≡ slice_get (step_pairs (gates_of self.now) (depth_of self.now)) k }
+        ensures { option_map (clause_in self.now) result ≡ slice_get (step_pairs (gates_of self.now) (depth_of self.now)) k }
     {
         let size = 2 * self.register_count() + 1;
         let pair = self.outline().pair_at(k / size)?;
@@ -55,7 +55,7 @@ impl Formula {
 
     /// The clause at a place behind the step's frames, if there is one.
     fn step_tail(&self, k: usize) -> Option<Shape>
-        ensures { option_map (clause_of (length (gates_of self.now)) (property_of self.now)) result ≡ slice_get (step_tail (gates_of self.now) (property_of self.now) (depth_of self.now)) k }
+        ensures { option_map (clause_in self.now) result ≡ slice_get (step_tail (gates_of self.now) (property_of self.now) (depth_of self.now)) k }
     {
         let outline = self.outline();
         let n = outline.wires;
@@ -72,7 +72,7 @@ impl Formula {
 
     /// The clause at place k, from 0, if there is one.
     fn clause(&self, k: usize) -> Option<Shape>
-        ensures { option_map (clause_of (length (gates_of self.now)) (property_of self.now)) result ≡ slice_get (clauses_of self.now) k }
+        ensures { option_map (clause_in self.now) result ≡ slice_get (clauses_of self.now) k }
     {
         let frames = self.frames_size();
         if k < frames {
@@ -86,7 +86,7 @@ impl Formula {
 
     /// The clause of a number, from 1, if there is one.
     pub(crate) fn numbered(&self, number: u32) -> Option<Shape>
-        ensures { option_map (clause_of (length (gates_of self.now)) (property_of self.now)) result ≡ numbered_of (clauses_of self.now) number }
+        ensures { option_map (clause_in self.now) result ≡ numbered_of (clauses_of self.now) number }
     {
         let k = (number as usize).checked_sub(1)?;
         self.clause(k)

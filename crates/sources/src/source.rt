@@ -5,6 +5,7 @@ ghost use Rattle.sources.specs.Meaning.{tail_of, clauses_of, variables_of};
 ghost use Rattle.std.proofs.Common.{◌∙◌, ap, refl};
 
 use crate::formula::Formula;
+use crate::pairs::pairs_before;
 use crate::rows::row;
 use boards::Board;
 use clauses::ClauseSource;
@@ -48,7 +49,7 @@ impl Formula {
         let d = outline.depth;
         match self.kind {
             FormulaKind::Base => 2 * n * d + n * d,
-            FormulaKind::Step => 2 * n * (d + 1) + n + self.register_count() * ((d + 1) * d / 2),
+            FormulaKind::Step => 2 * n * (d + 1) + n + self.register_count() * pairs_before(d + 1),
         }
     }
 
@@ -71,7 +72,7 @@ impl Formula {
         match self.kind {
             FormulaKind::Base => 2 * (n * d) + 1,
             FormulaKind::Step => {
-                let pairs = (d + 1) * d / 2;
+                let pairs = pairs_before(d + 1);
                 d * (n + 1) + (2 * n + 1) + pairs * (2 * self.register_count() + 1)
             }
         }

@@ -1,10 +1,12 @@
 ghost use Rattle.std.specs.Prelude.{◌≡◌, ℕ, ◌+◌, ◌*◌, ◌≤◌, Bool, ◌∷◌, length};
 ghost use Rattle.values.specs.Sides.{Rail as SpecRail};
-ghost use Rattle.formulas.specs.Drives.{drive as spec_drive};
+ghost use Rattle.formulas.specs.Kinds.{starts};
+ghost use Rattle.formulas.specs.Drives.{register, drive as spec_drive};
 ghost use Rattle.formulas.specs.Formulas.{equation, apart, driven};
 ghost use Rattle.wireclauses.specs.Sides.{right_of, drive_of};
 ghost use Rattle.wireclauses.specs.Sizes.{right_size, plain_size, register_size, one_if};
 
+use formulas::FormulaKind;
 use gates::Gate;
 
 /// A rail of a wire: rail 0 is up where the wire is 0, rail 1 where it is 1.
@@ -98,5 +100,20 @@ pub fn plain_size(gate: Gate) -> u16
         Gate::Copy(_) | Gate::Not(_) => 5,
         Gate::And(_, _) | Gate::Or(_, _) | Gate::Implies(_, _) => 7,
         Gate::Xor(_, _) => 13,
+    }
+}
+
+/// How many clauses a register has in a frame with so many before it.
+pub fn register_size(kind: FormulaKind, before: usize) -> usize
+    ensures is { result ≡ register_size (starts kind) before }
+    ensures small { result ≤ 4 }
+    ensures counts { (n w y : ℕ) → result ≡ length (apart n before w ∷ driven (starts kind) n before w (register y)) }
+{
+    if before > 0 {
+        return 4;
+    }
+    match kind {
+        FormulaKind::Base => 3,
+        FormulaKind::Step => 2,
     }
 }

@@ -1,12 +1,11 @@
-ghost use Rattle.std.specs.Prelude.{◌≡◌, ℕ, ◌+◌, ◌*◌, ◌≤◌, ◌∷◌, ◌++◌, length};
+ghost use Rattle.std.specs.Prelude.{◌≡◌, ◌+◌, ◌*◌, ◌≤◌, ◌∷◌, ◌++◌};
 ghost use Rattle.std.specs.Option.{option_map};
 ghost use Rattle.std.specs.List.{slice_get};
 ghost use Rattle.values.specs.Sides.{rail0 as rail_a, rail1 as rail_b};
 ghost use Rattle.formulas.specs.Kinds.{starts};
-ghost use Rattle.formulas.specs.Drives.{register, drive as spec_drive};
+ghost use Rattle.formulas.specs.Drives.{drive as spec_drive};
 ghost use Rattle.formulas.specs.Formulas.{rail_var, equation as equation_of, held as held_of, apart, defined, driven as driven_of};
 ghost use Rattle.wireclauses.specs.Literals.{few_of};
-ghost use Rattle.wireclauses.specs.Sizes.{register_size};
 ghost use Rattle.wireclauses.specs.Sides.{rail_of, right_of, drive_of, fixed_clauses, same_clauses, either_clauses, both_clauses, two_boths_clauses};
 
 use crate::frame::Frame;
@@ -16,21 +15,6 @@ use formulas::FormulaKind;
 use gates::Gate;
 
 impl Frame {
-    /// How many clauses a register has in the frame.
-    pub fn register_size(self) -> usize
-        ensures is { result ≡ register_size (starts self.kind) self.before }
-        ensures small { result ≤ 4 }
-        ensures counts { (w y : ℕ) → result ≡ length (apart self.wires self.before w ∷ driven_of (starts self.kind) self.wires self.before w (register y)) }
-    {
-        if self.before > 0 {
-            return 4;
-        }
-        match self.kind {
-            FormulaKind::Base => 3,
-            FormulaKind::Step => 2,
-        }
-    }
-
     /// The variable of a wire's rail 0; that of its rail 1 is the next.
     pub fn rail0(self, wire: u8) -> u16
         ensures is { result ≡ rail_var self.wires self.before (rail_a wire) }
@@ -66,7 +50,8 @@ impl Frame {
     }
 }
 
-// The clause at place j of a = t; of a = b; of a = b or c; of a = b and c; of a = (b and c) or (e and f).
+// The clause at place j of a = t; of a = b; of a = b or c; of a = b and c; of a = (b and c) or (e and f). Only the one that is
+// asked for is made.
 
 fn fixed(a: u16, t: bool, j: usize) -> Option<Few>
     ensures { option_map few_of result ≡ slice_get (fixed_clauses a t) j }

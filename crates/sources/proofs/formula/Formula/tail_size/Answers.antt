@@ -12,4 +12,4 @@ returns-in-Base-clause-is c =
 pub returns-in-Step-clause-is : goal.returns-in-Step-clause-is
 returns-in-Step-clause-is c =
     let o = c.outline-outline.ensures in
-    step_counted (sheet c.args.self.now.board) _ _ _ o.wires o.depth c.register_count.ensures.is ∙ ap (λ k. length (tail_of k (sheet c.args.self.now.board))) (sym c.in-Step.is)
+    step_counted (sheet c.args.self.now.board) _ _ _ _ o.wires o.depth c.register_count.ensures.is c.pairs_before-pairs.ensures.is ∙ ap (λ k. length (tail_of k (sheet c.args.self.now.board))) (sym c.in-Step.is)
