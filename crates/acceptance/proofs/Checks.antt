@@ -14,7 +14,7 @@ use Rattle.shelf.specs.Premises.{of_formula}
 use Rattle.acceptance.specs.Claims.{RefusalsChangeNothing}
 
 pub not_both : {A : Type 0} (e : Refusal) → ◌≡◌ {A = Verdict} (Ok tt) (Err e) → A
-not_both e q = let z : ◌≡◌ {A = ℕ} 0 1 = cc in absurd (omega arith)
+not_both e q = cc
 
 -- ---- one test
 
