@@ -51,6 +51,7 @@ impl<F: ClauseSource, S: Shelf> Refutation<F, S> {
     ///
     /// The marks are lent, one byte for each variable, whatever they hold. Where there are enough, they are 0 afterwards,
     /// whatever the answer; where there are fewer, they are left as they are.
+    // The parts of a line come one by one: a caller who reads them from a text lends a row of its own for each.
     pub fn line(
         &mut self,
         marks: &mut [u8],
