@@ -27,7 +27,7 @@ strike_frees t s rising n c past e =
     (ap (λ r. r.0) struck, ap (λ r. unwrap_or (t.cost (length c)) 0 + total t.cost r.1.lines) struck ∙ total_remove t.cost n c s.lines rising e)
 
 cons_not_empty : (l : ℤ) (ls : Clause) → l ∷ ls ≢ []
-cons_not_empty l ls e = let z : ◌≡◌ {A = ℕ} 0 1 = cc in omega arith
+cons_not_empty l ls e = cc
 
 module _ (V : ℕ) (F : List Clause) (capacity : ℕ) (cost : Costs) where
   abbrev t : Terms

@@ -9,7 +9,7 @@ use Rattle.clauses.specs.Clauses.{Clause, numbered}
 use Rattle.refuting.specs.Judging.{Terms, known}
 use Rattle.shelf.specs.Lines.{Lines, Costs, find, insert, remove, total, affords, keeps}
 use Rattle.shelf.specs.Premises.{of_formula, premises}
-use Rattle.shelf.proofs.Lines.{none_some, map_insert, map_remove, total_insert}
+use Rattle.shelf.proofs.Lines.{none_some, swapped, map_insert, map_remove, total_insert}
 
 -- ---- what all lines have
 
@@ -83,27 +83,21 @@ module _ (capacity : ℕ) (cost : Costs) (xs : Lines) (n : ℕ) (c : Clause) whe
 pub past_formula : (count n : ℕ) → count < n → of_formula count n ≡ false
 past_formula count n h = and_right (ltb 0 n) (leb n count) (lt-leb n count h)
 
-cond_cond : {A : Type 0} (x y z : A) (a b : Bool) → (b ≡ true → a ≡ false) → cond a x (cond b y z) ≡ cond b y (cond a x z)
-cond_cond x y z true true h = absurd (both_ways true (h refl) refl)
-cond_cond x y z true false h = refl
-cond_cond x y z false true h = refl
-cond_cond x y z false false h = refl
-
 module _ (t : Terms) (xs : Lines) (n : ℕ) (above : t.count < n) where
-  outside : (k : ℕ) → eqb n k ≡ true → of_formula t.count k ≡ false
-  outside k e = ap (of_formula t.count) (sym (eqb-true n k e)) ∙ past_formula t.count n above
+  outside : (k : ℕ) → of_formula t.count k ≡ true → eqb n k ≡ true → ⊥
+  outside k f e = both_ways (of_formula t.count k) (ap (of_formula t.count) (sym (eqb-true n k e)) ∙ past_formula t.count n above) f
 
   pub known_insert : (c : Clause) → find xs n ≡ None → known t (insert n c xs) ≡ update eqb (known t xs) n (Some c)
   known_insert c free =
       fun_ext
       (λ k. ap (cond (of_formula t.count k) (t.formula k)) (ap (λ f. f k) (map_insert n c xs free))
-      ∙ cond_cond (t.formula k) (Some c) (find xs k) (of_formula t.count k) (eqb n k) (outside k))
+      ∙ swapped (t.formula k) (Some c) (find xs k) (of_formula t.count k) (eqb n k) (outside k))
 
   pub known_remove : known t (remove n xs) ≡ update eqb (known t xs) n None
   known_remove =
       fun_ext
       (λ k. ap (cond (of_formula t.count k) (t.formula k)) (ap (λ f. f k) (map_remove n xs))
-      ∙ cond_cond (t.formula k) None (find xs k) (of_formula t.count k) (eqb n k) (outside k))
+      ∙ swapped (t.formula k) None (find xs k) (of_formula t.count k) (eqb n k) (outside k))
 
   pub known_past : known t xs n ≡ find xs n
   known_past = ap (λ b. cond b (t.formula n) (find xs n)) (past_formula t.count n above)

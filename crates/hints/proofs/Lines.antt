@@ -1,5 +1,5 @@
 -- A line's literals are made false one by one, and its hints are taken one by one.
-use Rattle.std.proofs.Common.{◌≡◌, ℕ, ◌+◌, ◌<◌, Bool, true, false, ◌&&◌, List, length, get_or, drop, ℤ, pos, Some, None, Err, Option, sym, refl, ap, ◌∙◌, arith}
+use Rattle.std.proofs.Common.{◌≡◌, ℕ, ◌+◌, ◌<◌, Bool, true, false, ◌&&◌, List, length, get_or, drop, ℤ, pos, Some, None, Err, Option, sym, refl, ap, ◌∙◌}
 use Rattle.std.proofs.lemmas.List.{at_drop_more}
 use Rattle.std.specs.Option.{option_map}
 use Rattle.refusals.specs.declared.Refusal.TheVariants as refusal
@@ -37,7 +37,7 @@ module _ (V : ℕ) (ls : Clause) (i : ℕ) where
 unless_next : (v : Option Bool) (m k : Marks) (ls : Clause) → unless_true v (Some m) ≡ Some k → unless_true v (falsified m ls) ≡ falsified k ls
 unless_next None m k ls e = let same : m ≡ k = cc in ap (λ x. falsified x ls) same
 unless_next (Some false) m k ls e = let same : m ≡ k = cc in ap (λ x. falsified x ls) same
-unless_next (Some true) m k ls e = let z : ◌≡◌ {A = ℕ} 0 1 = cc in absurd (omega arith)
+unless_next (Some true) m k ls e = cc
 
 module _ (m : Marks) (ls : Clause) (i : ℕ) where
   -- one more literal of the line

@@ -24,6 +24,20 @@ pub enum Reading {
     Slack,
 }
 
+impl Reading {
+    /// The reading with one more literal of the clause, which has a value or none.
+    fn with(self, literal: i32, value: Option<bool>) -> Reading
+        ensures { result ≡ weighed self literal value }
+    {
+        match (self, value) {
+            (_, Some(false)) => self,
+            (Reading::Conflict, None) => Reading::Forced(literal),
+            (Reading::Forced(other), None) if other == literal => self,
+            _ => Reading::Slack,
+        }
+    }
+}
+
 // A mark is lent as a byte: one of these two, or another where the variable is unset.
 const TRUE: u8 = 1;
 
@@ -77,18 +91,6 @@ fn mark(literal: i32, to: bool) -> u8
     if to == (literal < 0) { FALSE } else { TRUE }
 }
 
-/// One more literal of a clause.
-fn join(so_far: Reading, literal: i32, value: Option<bool>) -> Reading
-    ensures { result ≡ weighed so_far literal value }
-{
-    match (so_far, value) {
-        (_, Some(false)) => so_far,
-        (Reading::Conflict, None) => Reading::Forced(literal),
-        (Reading::Forced(other), None) if other == literal => so_far,
-        _ => Reading::Slack,
-    }
-}
-
 /// Reads one more literal of a clause, if there is one.
 fn read_literal<C: ClauseSource>(
     source: &mut C,
@@ -104,8 +106,7 @@ fn read_literal<C: ClauseSource>(
     if !names(marks.len(), literal) {
         return Some(Reading::Slack);
     }
-    let value = value(marks[place(literal)], literal);
-    Some(join(so_far, literal, value))
+    Some(so_far.with(literal, value(marks[place(literal)], literal)))
 }
 
 /// What the clause of a number says under the marks, if there is one. A slack clause is not read to its end.

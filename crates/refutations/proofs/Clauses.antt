@@ -1,5 +1,5 @@
 -- What a clause says under the marks, in words.
-use Rattle.std.proofs.Common.{◌≡◌, ℕ, Bool, true, false, cond, ◌⊎◌, [], ◌∷◌, ℤ, pos, negsuc, Some, None, Option, sym, refl, ap, ◌∙◌, subst, inl, inr, arith}
+use Rattle.std.proofs.Common.{◌≡◌, ℕ, Bool, true, false, cond, ◌⊎◌, [], ◌∷◌, ℤ, pos, negsuc, Some, None, Option, sym, refl, ap, ◌∙◌, subst, inl, inr}
 use Rattle.std.specs.List.{AllByRecursion as AllOf}
 use Rattle.std.proofs.lemmas.Bool.{eq-eqb}
 use Rattle.clauses.specs.Clauses.{Clause}
@@ -12,13 +12,13 @@ use Rattle.refutations.proofs.Soundness.{same_is}
 use Rattle.refutations.proofs.Within.{names_within, within_names}
 
 forced_conflict : (l : ℤ) → Forced l ≡ Conflict → ⊥
-forced_conflict l e = let z : ◌≡◌ {A = ℕ} 0 1 = cc in omega arith
+forced_conflict l e = cc
 
 slack_conflict : Slack ≡ Conflict → ⊥
-slack_conflict e = let z : ◌≡◌ {A = ℕ} 0 1 = cc in omega arith
+slack_conflict e = cc
 
 slack_forced : (l : ℤ) → Slack ≡ Forced l → ⊥
-slack_forced l e = let z : ◌≡◌ {A = ℕ} 0 1 = cc in omega arith
+slack_forced l e = cc
 
 same_refl : (l : ℤ) → same l l ≡ true
 same_refl (pos n) = eq-eqb n n refl

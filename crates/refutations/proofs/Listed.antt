@@ -6,7 +6,7 @@ use Rattle.std.proofs.lemmas.Bool.{both_ways}
 use Rattle.clauses.specs.Clauses.{Clause, Valuation, some_true, Satisfies, numbered}
 use Rattle.refutations.specs.Claims.{Models, Unsatisfiable}
 use Rattle.refutations.specs.Refuting.{Item, line, strike, Refutes, Refuting}
-use Rattle.refutations.proofs.Soundness.{none_some, sound}
+use Rattle.refutations.proofs.Soundness.{sound}
 
 module _ (v : Valuation) (clauses : ℕ → Option Clause) (models : Models v clauses) (n : ℕ) where
   pub models_line : (c : Clause) → some_true v c ≡ true → Models v (update eqb clauses n (Some c))
@@ -20,7 +20,7 @@ module _ (v : Valuation) (clauses : ℕ → Option Clause) (models : Models v cl
   models_strike k d e = go (eqb n k) e
     where
       go : (t : Bool) → cond t None (clauses k) ≡ Some d → some_true v d ≡ true
-      go true e' = absurd (none_some d e')
+      go true e' = cc
       go false e' = models k d e'
 
 -- No valuation makes the empty line true.
@@ -39,12 +39,12 @@ refutes V C v (line n (l ∷ ls) hints ∷ items) clauses last models r =
     refutes V C v items (update eqb clauses n (Some (l ∷ ls))) n (models_line v clauses models n (l ∷ ls) holds) r.1
 
 nth_holds : (v : Valuation) (F : List Clause) → Satisfies v F → (i : ℕ) (c : Clause) → slice_get F i ≡ Some c → some_true v c ≡ true
-nth_holds v [] all i c e = absurd (none_some c e)
+nth_holds v [] all i c e = cc
 nth_holds v (d ∷ F) all zero c e = let h : d ≡ c = cc in subst (λ x. some_true v x ≡ true) h all.0
 nth_holds v (d ∷ F) all (suc i) c e = nth_holds v F all.1 i c e
 
 pub formula_models : (v : Valuation) (F : List Clause) → Satisfies v F → Models v (numbered F)
-formula_models v F all zero c e = absurd (none_some c e)
+formula_models v F all zero c e = cc
 formula_models v F all (suc i) c e = nth_holds v F all i c e
 
 pub listed_refuted : (V : ℕ) (F : List Clause) → ((items : List Item) × Refuting V F items) → Unsatisfiable F

@@ -1,5 +1,5 @@
 -- The value of a literal after one is made true or false.
-use Rattle.std.proofs.Common.{◌≡◌, ℕ, zero, suc, ◌<◌, Bool, true, false, not, ◌≢◌, ◌⊎◌, ℤ, pos, negsuc, neg_ℤ, Some, None, Option, sym, refl, ap, ◌∙◌, inl, inr, arith}
+use Rattle.std.proofs.Common.{◌≡◌, zero, suc, ◌<◌, Bool, true, false, not, ◌≢◌, ◌⊎◌, ℤ, pos, negsuc, neg_ℤ, Some, None, Option, sym, refl, ap, ◌∙◌, inl, inr, arith}
 use Rattle.std.proofs.lemmas.Map.{update_here, update_apart}
 use Rattle.std.proofs.lemmas.Bool.{cases_eq}
 use Rattle.clauses.specs.Clauses.{variable}
@@ -22,8 +22,8 @@ neg_variable (negsuc x) = refl
 
 pub neg_apart : (l : ℤ) → Literal l → neg_ℤ l ≡ l → ⊥
 neg_apart (pos zero) h e = omega arith
-neg_apart (pos (suc x)) h e = let z : ◌≡◌ {A = ℕ} 0 1 = cc in omega arith
-neg_apart (negsuc x) h e = let z : ◌≡◌ {A = ℕ} 0 1 = cc in omega arith
+neg_apart (pos (suc x)) h e = cc
+neg_apart (negsuc x) h e = cc
 
 pub value_neg : (m : Marks) (l : ℤ) → value m (neg_ℤ l) ≡ flipped (value m l)
 value_neg m (pos zero) = refl

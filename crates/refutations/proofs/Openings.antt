@@ -9,10 +9,10 @@ use Rattle.refutations.specs.Words.{In, LineInWords}
 use Rattle.refutations.proofs.Literals.{Literal, neg_variable, neg_apart, value_neg, neg_of_true, true_of_neg, assigned_here, Places, places}
 
 true_false : (o : Option Bool) → o ≡ Some true → o ≡ Some false → ⊥
-true_false o p q = let z : ◌≡◌ {A = ℕ} 0 1 = cc in omega arith
+true_false o p q = cc
 
 none_true : (o : Option Bool) → o ≡ None → o ≡ Some true → ⊥
-none_true o p q = let z : ◌≡◌ {A = ℕ} 0 1 = cc in omega arith
+none_true o p q = cc
 
 neg_literal : (l : ℤ) → Literal l → Literal (neg_ℤ l)
 neg_literal l h = let e = neg_variable l in omega arith
@@ -97,9 +97,9 @@ out (inl a) = a
 out (inr x) = absurd x
 
 nothing_false : (l : ℤ) → value unset l ≡ Some false → ⊥
-nothing_false (pos zero) f = let z : ◌≡◌ {A = ℕ} 0 1 = cc in omega arith
-nothing_false (pos (suc x)) f = let z : ◌≡◌ {A = ℕ} 0 1 = cc in omega arith
-nothing_false (negsuc x) f = let z : ◌≡◌ {A = ℕ} 0 1 = cc in omega arith
+nothing_false (pos zero) f = cc
+nothing_false (pos (suc x)) f = cc
+nothing_false (negsuc x) f = cc
 
 module _ (V : ℕ) (line : Clause) (within : AllOf (Within V) line) where
   abbrev Clash : Type 0
@@ -113,7 +113,7 @@ module _ (V : ℕ) (line : Clause) (within : AllOf (Within V) line) where
 
   clash : (o : Option Marks) → Said (λ l. ⊥) line o → o ≡ None → Clash
   clash None s e = (s.0, s.1, out s.2)
-  clash (Some m) s e = let z : ◌≡◌ {A = ℕ} 0 1 = cc in absurd (omega arith)
+  clash (Some m) s e = cc
 
   passes : (o : Option Marks) → Said (λ l. ⊥) line o → Clash → o ≡ None
   passes None s c = refl
@@ -122,7 +122,7 @@ module _ (V : ℕ) (line : Clause) (within : AllOf (Within V) line) where
       absurd (true_false (value m l) (true_of_neg m l ((s (neg_ℤ l) (neg_literal l q)).1 (inl there))) ((s l q).1 (inl here)))
 
   opened : (o : Option Marks) → Said (λ l. ⊥) line o → (m : Marks) → o ≡ Some m → (l : ℤ) → Within V l → (value m l ≡ Some false) ↔ In l line
-  opened None s m e l w = let z : ◌≡◌ {A = ℕ} 0 1 = cc in absurd (omega arith)
+  opened None s m e l w = cc
   opened (Some k) s m e l w =
       let km : k ≡ m = cc in
       let are : FalseAre m (λ j. In j line ⊎ ⊥) = subst (λ n. FalseAre n (λ j. In j line ⊎ ⊥)) km s in

@@ -1,20 +1,13 @@
 -- What follows by hints holds wherever the clauses hold. Under a valuation that makes the line false every mark is the
 -- valuation's, so that no clause that holds is in conflict with the marks.
-use Rattle.std.proofs.Common.{◌≡◌, ℕ, zero, suc, Bool, true, false, cond, not, eqb, ◌⊎◌, List, [], ◌∷◌, ℤ, pos, negsuc, Some, None, Ok, Err, Option, sym, refl, ap, ◌∙◌, inl, inr, arith}
+use Rattle.std.proofs.Common.{◌≡◌, ℕ, zero, suc, Bool, true, false, cond, not, eqb, ◌⊎◌, List, [], ◌∷◌, ℤ, pos, negsuc, Some, None, Ok, Option, sym, refl, ap, ◌∙◌, inl, inr}
 use Rattle.std.specs.Map.{update}
 use Rattle.std.proofs.lemmas.Bool.{eqb-true, both_ways, or_cases, or_parts}
-use Rattle.refusals.specs.declared.Refusal.{Refusal}
 use Rattle.clauses.specs.Clauses.{Clause, Valuation, true_literal, some_true}
 use Rattle.hints.specs.declared.Reading.{Reading}
 use Rattle.hints.specs.declared.Reading.TheVariants.{Conflict, Forced, Slack}
-use Rattle.hints.specs.Hints.{Verdict, Marks, unset, flipped, value, assign, names, unless_true, falsified, same, one_more, weighed, joined, reading, by_reading, by_hint, by_hints, by_line}
+use Rattle.hints.specs.Hints.{Marks, unset, flipped, value, assign, names, unless_true, falsified, same, one_more, weighed, joined, reading, by_reading, by_hint, by_hints, by_line}
 use Rattle.refutations.specs.Claims.{Models, Sound}
-
-pub none_some : {A : Type 0} (x : A) → ◌≡◌ {A = Option A} None (Some x) → ⊥
-none_some x e = let z : ◌≡◌ {A = ℕ} 0 1 = cc in omega arith
-
-refused : (e : Refusal) → ◌≡◌ {A = Verdict} (Err e) (Ok tt) → ⊥
-refused e q = let z : ◌≡◌ {A = ℕ} 0 1 = cc in omega arith
 
 pub same_is : (k l : ℤ) → same k l ≡ true → k ≡ l
 same_is (pos m) (pos n) e = ap pos (eqb-true m n e)
@@ -46,7 +39,7 @@ Agrees m v = (x : ℕ) (b : Bool) → m x ≡ Some b → v x ≡ b
 
 module _ (v : Valuation) (m : Marks) (agrees : Agrees m v) where
   value_agrees : (l : ℤ) (b : Bool) → value m l ≡ Some b → true_literal v l ≡ b
-  value_agrees (pos zero) b e = absurd (none_some b e)
+  value_agrees (pos zero) b e = cc
   value_agrees (pos (suc x)) b e = agrees x b e
   value_agrees (negsuc x) b e = not_left (v x) b (agrees x (not b) (flipped_some (m x) b e))
 
@@ -146,7 +139,7 @@ module _ (v : Valuation) where
 -- Clauses that hold come to no conflict under a valuation's marks.
 never : (V : ℕ) (v : Valuation) (clauses : ℕ → Option Clause) → Models v clauses
     → (hs : List ℕ) (m : Marks) → Agrees m v → by_hints V clauses m hs ≡ Ok tt → ⊥
-never V v clauses models [] m agrees e = refused _ e
+never V v clauses models [] m agrees e = cc
 never V v clauses models (h ∷ hs) m agrees e = hint (never V v clauses models hs) (clauses h) refl e
   where
     Later : Type 0
@@ -155,10 +148,10 @@ never V v clauses models (h ∷ hs) m agrees e = hint (never V v clauses models 
     read : Later → (r : Reading) → Told v r → by_reading r m (λ m'. by_hints V clauses m' hs) ≡ Ok tt → ⊥
     read later Conflict t e' = t
     read later (Forced l) t e' = later (assign m l true) (assign_agrees v m agrees l true t) e'
-    read later Slack t e' = refused _ e'
+    read later Slack t e' = cc
 
     hint : Later → (o : Option Clause) → clauses h ≡ o → by_hint V o m (λ m'. by_hints V clauses m' hs) ≡ Ok tt → ⊥
-    hint later None q e' = refused _ e'
+    hint later None q e' = cc
     hint later (Some c) q e' = read later (reading V m Conflict c) (reading_told v V m agrees c Conflict (models h c q)) e'
 
 pub sound : Sound
@@ -170,4 +163,4 @@ sound V clauses line hints e v models = by_test (some_true v line) refl
 
     by_test : (t : Bool) → some_true v line ≡ t → t ≡ true
     by_test true q = refl
-    by_test false q = absurd (from (falsified unset line) (falsified_agrees v line q unset (λ x b h. absurd (none_some b h))) e)
+    by_test false q = absurd (from (falsified unset line) (falsified_agrees v line q unset (λ x b h. cc)) e)

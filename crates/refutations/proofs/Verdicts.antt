@@ -1,5 +1,5 @@
 -- What a list of hints is answered, in words.
-use Rattle.std.proofs.Common.{◌≡◌, ℕ, true, ◌⊎◌, List, [], ◌∷◌, Some, None, Ok, Err, Option, sym, refl, ap, ◌∙◌, inl, inr, arith}
+use Rattle.std.proofs.Common.{◌≡◌, ℕ, true, ◌⊎◌, List, [], ◌∷◌, Some, None, Ok, Err, Option, sym, refl, ap, ◌∙◌, inl, inr}
 use Rattle.refusals.specs.declared.Refusal.TheVariants as refusal
 use Rattle.clauses.specs.Clauses.{Clause}
 use Rattle.hints.specs.declared.Reading.{Reading}
@@ -88,9 +88,9 @@ module _ (V : ℕ) (clauses : ℕ → Option Clause) where
       go : ((m' : Marks) → next m' ≡ Err refusal.Loose → AllForce V clauses m' hs) → Answered V m (clauses h) next (Err refusal.Loose)
           → AllForce V clauses m (h ∷ hs)
       go later (inl f) = forces_more V m (clauses h) (λ m'. next m' ≡ Err refusal.Loose) (λ m'. AllForce V clauses m' hs) later f
-      go later (inr (inl x)) = let z : ◌≡◌ {A = ℕ} 0 1 = cc x.0 in absurd (omega arith)
-      go later (inr (inr (inl x))) = let z : ◌≡◌ {A = ℕ} 0 1 = cc x.0 in absurd (omega arith)
-      go later (inr (inr (inr x))) = let z : ◌≡◌ {A = ℕ} 0 1 = cc x.0 in absurd (omega arith)
+      go later (inr (inl x)) = cc x.0
+      go later (inr (inr (inl x))) = cc x.0
+      go later (inr (inr (inr x))) = cc x.0
 
   loose : (hs : List ℕ) (m : Marks) → AllForce V clauses m hs → by_hints V clauses m hs ≡ Err refusal.Loose
   loose [] m all = refl
@@ -102,29 +102,29 @@ module _ (V : ℕ) (m : Marks) (o : Option Clause) (next : Marks → Verdict) wh
   told_taken : Answered V m o next (Ok tt) → InConflict V m o ⊎ Forces V m o (λ m'. next m' ≡ Ok tt)
   told_taken (inl f) = inr f
   told_taken (inr (inl x)) = inl x.1
-  told_taken (inr (inr (inl x))) = let z : ◌≡◌ {A = ℕ} 0 1 = cc x.0 in absurd (omega arith)
-  told_taken (inr (inr (inr x))) = let z : ◌≡◌ {A = ℕ} 0 1 = cc x.0 in absurd (omega arith)
+  told_taken (inr (inr (inl x))) = cc x.0
+  told_taken (inr (inr (inr x))) = cc x.0
 
   told_absent : Answered V m o next (Err refusal.Absent) → (o ≡ None) ⊎ Forces V m o (λ m'. next m' ≡ Err refusal.Absent)
   told_absent (inl f) = inr f
-  told_absent (inr (inl x)) = let z : ◌≡◌ {A = ℕ} 0 1 = cc x.0 in absurd (omega arith)
+  told_absent (inr (inl x)) = cc x.0
   told_absent (inr (inr (inl x))) = inl x.1
-  told_absent (inr (inr (inr x))) = let z : ◌≡◌ {A = ℕ} 0 1 = cc x.0 in absurd (omega arith)
+  told_absent (inr (inr (inr x))) = cc x.0
 
   told_slack : Answered V m o next (Err refusal.Slack) → IsSlack V m o ⊎ Forces V m o (λ m'. next m' ≡ Err refusal.Slack)
   told_slack (inl f) = inr f
-  told_slack (inr (inl x)) = let z : ◌≡◌ {A = ℕ} 0 1 = cc x.0 in absurd (omega arith)
-  told_slack (inr (inr (inl x))) = let z : ◌≡◌ {A = ℕ} 0 1 = cc x.0 in absurd (omega arith)
+  told_slack (inr (inl x)) = cc x.0
+  told_slack (inr (inr (inl x))) = cc x.0
   told_slack (inr (inr (inr x))) = inl x.1
 
 loose_taken : ◌≡◌ {A = Verdict} (Err refusal.Loose) (Ok tt) → ⊥
-loose_taken e = let z : ◌≡◌ {A = ℕ} 0 1 = cc in omega arith
+loose_taken e = cc
 
 loose_absent : ◌≡◌ {A = Verdict} (Err refusal.Loose) (Err refusal.Absent) → ⊥
-loose_absent e = let z : ◌≡◌ {A = ℕ} 0 1 = cc in omega arith
+loose_absent e = cc
 
 loose_slack : ◌≡◌ {A = Verdict} (Err refusal.Loose) (Err refusal.Slack) → ⊥
-loose_slack e = let z : ◌≡◌ {A = ℕ} 0 1 = cc in omega arith
+loose_slack e = cc
 
 pub hints_in_words : HintsInWords
 hints_in_words V clauses m hs = (

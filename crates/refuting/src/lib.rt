@@ -26,6 +26,7 @@ pub struct Refutation<F: ClauseSource, S: Shelf> {
     last: u32,
 }
 
+// Each clause names the members of F and S: the value of a model is data, and what F and S stand for are maps.
 impl<F: ClauseSource, S: Shelf> Refutation<F, S> {
     /// Begins to refute a formula of so many clauses and variables. The shelf is wiped.
     pub fn new(formula: F, count: u32, variables: usize, mut shelf: S) -> Refutation<F, S>
@@ -50,6 +51,7 @@ impl<F: ClauseSource, S: Shelf> Refutation<F, S> {
     ///
     /// The marks are lent, one byte for each variable, whatever they hold. Where there are enough, they are 0 afterwards,
     /// whatever the answer; where there are fewer, they are left as they are.
+    // The parts of a line come one by one: a caller who reads them from a text lends a row of its own for each.
     pub fn line(
         &mut self,
         marks: &mut [u8],

@@ -24,38 +24,39 @@ mod tests {
         Refutation::new(Square::new(), 4, 2, Lone::default())
     }
 
-    // What the check answers over marks that hold something, and whether exactly the first two are cleared.
-    fn checked(literals: &[i32], hints: &[u32]) -> (Result<(), Refusal>, bool) {
+    // What the check answers over marks that hold something. Exactly the first two are cleared.
+    fn checked(rt: &impl Abort, literals: &[i32], hints: &[u32]) -> Result<(), Refusal> {
         let mut marks = [7u8, 2, 9];
         let answer = check_line(&mut Square::new(), &mut marks, 2, literals, hints);
-        (answer, marks == [0, 0, 9])
+        assert!(rt; marks == [0, 0, 9]);
+        answer
     }
 
     #[test]
     fn hints_are_taken_in_order(rt: HostRuntime) {
-        assert_eq!(rt; checked(&[2], &[1, 2]), (Ok(()), true));
-        assert_eq!(rt; checked(&[2, 2], &[2, 1]), (Ok(()), true));
-        assert_eq!(rt; checked(&[1, 2], &[1]), (Ok(()), true));
-        assert_eq!(rt; checked(&[2], &[1]), (Err(Refusal::Loose), true));
-        assert_eq!(rt; checked(&[2], &[]), (Err(Refusal::Loose), true));
-        assert_eq!(rt; checked(&[], &[1]), (Err(Refusal::Slack), true));
-        assert_eq!(rt; checked(&[-1], &[1]), (Err(Refusal::Slack), true));
-        assert_eq!(rt; checked(&[2], &[1, 1]), (Err(Refusal::Slack), true));
-        assert_eq!(rt; checked(&[2], &[0]), (Err(Refusal::Absent), true));
-        assert_eq!(rt; checked(&[2], &[1, 5]), (Err(Refusal::Absent), true));
+        assert_eq!(rt; checked(&rt, &[2], &[1, 2]), Ok(()));
+        assert_eq!(rt; checked(&rt, &[2, 2], &[2, 1]), Ok(()));
+        assert_eq!(rt; checked(&rt, &[1, 2], &[1]), Ok(()));
+        assert_eq!(rt; checked(&rt, &[2], &[1]), Err(Refusal::Loose));
+        assert_eq!(rt; checked(&rt, &[2], &[]), Err(Refusal::Loose));
+        assert_eq!(rt; checked(&rt, &[], &[1]), Err(Refusal::Slack));
+        assert_eq!(rt; checked(&rt, &[-1], &[1]), Err(Refusal::Slack));
+        assert_eq!(rt; checked(&rt, &[2], &[1, 1]), Err(Refusal::Slack));
+        assert_eq!(rt; checked(&rt, &[2], &[0]), Err(Refusal::Absent));
+        assert_eq!(rt; checked(&rt, &[2], &[1, 5]), Err(Refusal::Absent));
         // What stands behind the conflict is not read.
-        assert_eq!(rt; checked(&[2], &[1, 2, 5, 0]), (Ok(()), true));
+        assert_eq!(rt; checked(&rt, &[2], &[1, 2, 5, 0]), Ok(()));
     }
 
     #[test]
     fn literals_are_screened_first(rt: HostRuntime) {
-        assert_eq!(rt; checked(&[2, -2], &[]), (Ok(()), true));
-        assert_eq!(rt; checked(&[2, 1, -2], &[9]), (Ok(()), true));
-        assert_eq!(rt; checked(&[0], &[9]), (Err(Refusal::Literal), true));
-        assert_eq!(rt; checked(&[2, -2, 3], &[]), (Err(Refusal::Literal), true));
-        assert_eq!(rt; checked(&[-3], &[1]), (Err(Refusal::Literal), true));
-        assert_eq!(rt; checked(&[i32::MIN], &[1]), (Err(Refusal::Literal), true));
-        assert_eq!(rt; checked(&[i32::MAX], &[1]), (Err(Refusal::Literal), true));
+        assert_eq!(rt; checked(&rt, &[2, -2], &[]), Ok(()));
+        assert_eq!(rt; checked(&rt, &[2, 1, -2], &[9]), Ok(()));
+        assert_eq!(rt; checked(&rt, &[0], &[9]), Err(Refusal::Literal));
+        assert_eq!(rt; checked(&rt, &[2, -2, 3], &[]), Err(Refusal::Literal));
+        assert_eq!(rt; checked(&rt, &[-3], &[1]), Err(Refusal::Literal));
+        assert_eq!(rt; checked(&rt, &[i32::MIN], &[1]), Err(Refusal::Literal));
+        assert_eq!(rt; checked(&rt, &[i32::MAX], &[1]), Err(Refusal::Literal));
     }
 
     #[test]

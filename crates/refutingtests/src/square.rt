@@ -42,10 +42,10 @@ impl ClauseSource for Square {
     fn literal(&mut self, number: u32, at: usize) -> Option<i32> {
         self.asked = self.asked.saturating_add(1);
         match (number, at) {
-            (1, 0) | (3, 0) => Some(1),
-            (2, 0) | (4, 0) => Some(-1),
-            (1, 1) | (2, 1) => Some(2),
-            (3, 1) | (4, 1) => Some(-2),
+            (1 | 3, 0) => Some(1),
+            (2 | 4, 0) => Some(-1),
+            (1 | 2, 1) => Some(2),
+            (3 | 4, 1) => Some(-2),
             _ => None,
         }
     }

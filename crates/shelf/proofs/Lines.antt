@@ -8,9 +8,10 @@ use Rattle.clauses.specs.Clauses.{Clause}
 use Rattle.shelf.specs.Lines.{Lines, Rising, Costs, find, insert, remove, total}
 
 pub none_some : {A : Type 0} (c : A) → ◌≡◌ {A = Option A} None (Some c) → ⊥
-none_some c e = let z : ◌≡◌ {A = ℕ} 0 1 = cc in omega arith
+none_some c e = cc
 
-swapped : {A : Type 0} (x y z : A) (a b : Bool) → (a ≡ true → b ≡ true → ⊥) → cond a x (cond b y z) ≡ cond b y (cond a x z)
+-- two tests of which at most one holds
+pub swapped : {A : Type 0} (x y z : A) (a b : Bool) → (a ≡ true → b ≡ true → ⊥) → cond a x (cond b y z) ≡ cond b y (cond a x z)
 swapped x y z true true h = absurd (h refl refl)
 swapped x y z true false h = refl
 swapped x y z false true h = refl
