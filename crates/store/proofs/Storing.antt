@@ -1,5 +1,5 @@
 -- What a store holds after a line was put in or taken out.
-use Rattle.std.proofs.Common.{◌≡◌, ℕ, zero, suc, ◌+◌, ◌-◌, ◌<◌, ◌≤◌, Bool, true, false, cond, not, ◌&&◌, ltb, leb, List, [], ◌∷◌, ◌++◌, map, length, get_or, take, drop, ℤ, is_some, Some, None, Option, sym, ap, ◌∙◌, ap₂, arith}
+use Rattle.std.proofs.Common.{◌≡◌, ℕ, zero, suc, ◌+◌, ◌-◌, ◌<◌, ◌≤◌, Bool, true, false, cond, not, ◌&&◌, ltb, leb, List, [], ◌∷◌, ◌++◌, length, get_or, take, drop, ℤ, is_some, Some, None, Option, sym, ap, ◌∙◌, ap₂, arith}
 use Rattle.std.specs.List.{insert as inserted, remove as removed, AllByRecursion as AllOf}
 use Rattle.std.proofs.lemmas.List.{length-append, length-take-le, length-drop}
 use Rattle.std.proofs.ByRecursion.{All-append, All-take, All-drop}
@@ -10,7 +10,7 @@ use Rattle.shelf.specs.Lines.{Lines, Rising, find, insert, remove}
 use Rattle.shelf.proofs.Lines.{rising_insert, remove_none}
 use Rattle.store.specs.declared.entry.Entry.{Entry}
 use Rattle.store.specs.declared.store.Store.{Store}
-use Rattle.store.specs.Rows.{cut, lengths, packed, rises, place, stands, spot, later, earlier, literals_in}
+use Rattle.store.specs.Rows.{cut, lengths, packed, rises, place, stands, spot, lined_up, literals_in}
 use Rattle.store.specs.Stores.{lines_of, line_room, literal_room, fits}
 use Rattle.store.proofs.Places.{
   rising_from_rises,
@@ -23,7 +23,7 @@ use Rattle.store.proofs.Places.{
   insert_place,
   remove_stands,
 }
-use Rattle.store.proofs.Cuts.{cut_put_in, cut_taken_out, packed_put_in, packed_taken_out, lengths_within, entry_ends}
+use Rattle.store.proofs.Cuts.{cut_put_in, cut_taken_out, packed_behind, all_lengths, lengths_more, lengths_parts, lengths_within, entry_ends}
 
 -- the parts of a store
 pub record Sound (es : List Entry) (row : List ℤ) : Type 0 where
@@ -37,18 +37,18 @@ absent n at xs r is free = find_none n xs (rising_from_rises xs r) (ap (λ k. st
 
 pub put_lines : (es fs : List Entry) (row next c : List ℤ) (at : ℕ) (e : Entry) → Sound es row
     → at ≡ place e.number (cut es row) → stands e.number at (cut es row) ≡ false → e.start ≡ lengths (take at es) → e.length ≡ length c
-    → fs ≡ take at es ++ e ∷ map (later e.length) (drop at es) → next ≡ take e.start row ++ (c ++ drop e.start row)
+    → fs ≡ take at es ++ lined_up e.start (e ∷ drop at es) → next ≡ take e.start row ++ (c ++ drop e.start row)
     → cut fs next ≡ insert e.number c (cut es row)
 put_lines es fs row next c at e s is free start len f r =
     let xs = cut es row in
-    ap₂ cut (f ∙ ap (λ k. take at es ++ e ∷ map (later k) (drop at es)) len) (r ∙ ap (λ k. take k row ++ (c ++ drop k row)) start)
-    ∙ cut_put_in es row c at e (lengths_within es at (length row) s.tight) len
+    ap₂ cut f (r ∙ ap (λ k. take k row ++ (c ++ drop k row)) start)
+    ∙ cut_put_in es row c at e.start e (lengths_within es at (length row) s.tight) len
     ∙ ap (λ k. inserted xs k (e.number, c)) is
     ∙ sym (insert_place e.number c xs (absent e.number at xs s.rising is free))
 
 pub put_sound : (es fs : List Entry) (row next c : List ℤ) (at : ℕ) (e : Entry) → Sound es row
     → at ≡ place e.number (cut es row) → stands e.number at (cut es row) ≡ false → e.start ≡ lengths (take at es) → e.length ≡ length c
-    → fs ≡ take at es ++ e ∷ map (later e.length) (drop at es) → next ≡ take e.start row ++ (c ++ drop e.start row)
+    → fs ≡ take at es ++ lined_up e.start (e ∷ drop at es) → next ≡ take e.start row ++ (c ++ drop e.start row)
     → Sound fs next
 put_sound es fs row next c at e s is free start len f r =
     let xs = cut es row in
@@ -67,7 +67,8 @@ put_sound es fs row next c at e s is free start len f r =
     record {
       rising = ap rises (put_lines es fs row next c at e s is free start len f r)
           ∙ rises_from_rising (insert n c xs) (rising_insert n c xs (absent n at xs s.rising is free) (rising_from_rises xs s.rising));
-      tight = ap₂ (packed 0) f size ∙ packed_put_in es at (length row) e s.tight start;
+      tight = ap (λ zs. packed 0 zs (length next)) (f ∙ ap (λ k. take at es ++ lined_up k (e ∷ drop at es)) start)
+          ∙ packed_behind es (e ∷ drop at es) at (length row) (length next) s.tight (omega (arith, lengths_parts es at, all_lengths es 0 (length row) s.tight));
     }
 
 -- ---- taken out
@@ -83,21 +84,22 @@ rising_removed zero (x ∷ xs) r = r.1
 rising_removed (suc i) (x ∷ xs) r = (all_removed x.0 i xs r.0, rising_removed i xs r.1)
 
 pub taken_lines : (es fs : List Entry) (row next : List ℤ) (at : ℕ) (e : Entry) → Sound es row → at < length es → e ≡ get_or es at e
-    → fs ≡ take at es ++ map (earlier e.length) (drop (suc at) es) → next ≡ take e.start row ++ drop (e.start + e.length) row
+    → fs ≡ take at es ++ lined_up e.start (drop (suc at) es) → next ≡ take e.start row ++ drop (e.start + e.length) row
     → cut fs next ≡ removed (cut es row) at
 taken_lines es fs row next at e s h is f r =
     let start : e.start ≡ lengths (take at es) = omega (arith, ap (λ x. x.start) is, (entry_ends es 0 (length row) at e s.tight h).1) in
     let len : e.length ≡ (get_or es at e).length = ap (λ x. x.length) is in
-    ap₂ cut (f ∙ ap (λ k. take at es ++ map (earlier k) (drop (suc at) es)) len) (r ∙ ap₂ (λ k l. take k row ++ drop (k + l) row) start len)
-    ∙ cut_taken_out es row at e h (lengths_within es at (length row) s.tight)
+    ap₂ cut f (r ∙ ap₂ (λ k l. take k row ++ drop (k + l) row) start len)
+    ∙ cut_taken_out es row at e.start e h (lengths_within es at (length row) s.tight)
 
 pub taken_sound : (es fs : List Entry) (row next : List ℤ) (at : ℕ) (e : Entry) → Sound es row → at < length es → e ≡ get_or es at e
-    → fs ≡ take at es ++ map (earlier e.length) (drop (suc at) es) → next ≡ take e.start row ++ drop (e.start + e.length) row
+    → fs ≡ take at es ++ lined_up e.start (drop (suc at) es) → next ≡ take e.start row ++ drop (e.start + e.length) row
     → Sound fs next
 taken_sound es fs row next at e s h is f r =
     let xs = cut es row in
     let len : e.length ≡ (get_or es at e).length = ap (λ x. x.length) is in
     let ends = entry_ends es 0 (length row) at e s.tight h in
+    let start : e.start ≡ lengths (take at es) = omega (arith, ap (λ x. x.start) is, ends.1) in
     let size : length next ≡ length row - (get_or es at e).length =
     ap length r ∙ (
     omega (
@@ -111,7 +113,8 @@ taken_sound es fs row next at e s h is f r =
     ) in
     record {
       rising = ap rises (taken_lines es fs row next at e s h is f r) ∙ rises_from_rising (removed xs at) (rising_removed at xs (rising_from_rises xs s.rising));
-      tight = ap₂ (packed 0) (f ∙ ap (λ k. take at es ++ map (earlier k) (drop (suc at) es)) len) size ∙ packed_taken_out es at (length row) e h s.tight;
+      tight = ap (λ zs. packed 0 zs (length next)) (f ∙ ap (λ k. take at es ++ lined_up k (drop (suc at) es)) start)
+          ∙ packed_behind es (drop (suc at) es) at (length row) (length next) s.tight (omega (arith, lengths_more es at e h, lengths_parts es (suc at), all_lengths es 0 (length row) s.tight));
     }
 
 -- ---- whether a line is kept, or struck
@@ -132,9 +135,6 @@ kept n xs fits x y free e =
     and_from (not (is_some (find xs n))) fits (not_from_false (is_some (find xs n)) (ap is_some free)) e
     )
     )
-
-pub not_struck : {A : Type 0} (n : ℕ) (xs : Lines) (x y : A) → None ≡ spot n xs → y ≡ cond (is_some (find xs n)) x y
-not_struck n xs x y s = sym (cond-false (is_some (find xs n)) x y (ap is_some (none_found n xs (sym s))))
 
 pub struck : {A : Type 0} (n at : ℕ) (xs : Lines) (x y : A) → rises xs ≡ true → Some at ≡ spot n xs → x ≡ cond (is_some (find xs n)) x y
 struck n at xs x y r s =

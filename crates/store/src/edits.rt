@@ -5,7 +5,7 @@ ghost use Rattle.store.specs.Rows.{lengths, place, stands, literals_in};
 ghost use Rattle.store.specs.Stores.{lines_of, line_room, literal_room, Roomy};
 
 use crate::entry::Entry;
-use crate::moves::{put_entry, put_in, take_entry, take_out};
+use crate::moves::{line_up, put_in};
 use crate::store::Store;
 use std::alloc::{AllocError, Global};
 
@@ -43,11 +43,9 @@ impl Store {
         ensures is { result ≡ lengths (take at self.now.entries.items) }
         ensures within { result ≤ vec_len self.now.row }
     {
-        if at < self.lines() {
-            self.entries[at].start
-        } else {
-            self.literals()
-        }
+        self.entries
+            .get(at)
+            .map_or(self.literals(), |entry| entry.start)
     }
 
     /// Puts a line in at the place of its number.
@@ -67,7 +65,9 @@ impl Store {
             start,
             length,
         };
-        put_entry(&mut self.entries, at, entry);
+        // There is room for it, so this does not fail.
+        let _ = self.entries.insert(at, entry);
+        line_up(&mut self.entries, at, start);
     }
 
     /// Takes the line at a place out.
@@ -76,9 +76,9 @@ impl Store {
         ensures lines { lines_of self.new ≡ remove (lines_of self.old) at }
         ensures room { Roomy self.old self.new }
     {
-        let entry = self.entries[at];
-        take_out(&mut self.row, entry.start, entry.length);
-        take_entry(&mut self.entries, at, entry.length);
+        let entry = self.entries.remove(at);
+        drop(self.row.drain(entry.start..entry.start + entry.length));
+        line_up(&mut self.entries, at, entry.start);
     }
 
     /// Takes all lines out.

@@ -38,12 +38,8 @@ impl Store {
         ensures lines { lines_of self.new ≡ remove_from number (lines_of self.old) }
         ensures room { Roomy self.old self.new }
     {
-        match self.find(number) {
-            None => Err(Refusal::Absent),
-            Some(at) => {
-                self.remove(at);
-                Ok(())
-            }
-        }
+        let at = self.find(number).ok_or(Refusal::Absent)?;
+        self.remove(at);
+        Ok(())
     }
 }
