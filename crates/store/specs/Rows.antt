@@ -1,5 +1,5 @@
 -- Lines in a row: their literals one after the other, and an entry for each line.
-use Rattle.std.specs.Prelude.{ℕ, ◌+◌, Bool, true, false, cond, ◌&&◌, List, [], ◌∷◌, length, take, drop, ℤ, is_some, Some, None, Option, ◌==◌, nat_lt}
+use Rattle.std.specs.Prelude.{ℕ, ◌+◌, Bool, true, false, cond, ◌&&◌, List, [], ◌∷◌, length, take, drop, ℤ, is_some, Some, None, Option, Ok, Err, Result, ◌==◌, nat_lt}
 use Rattle.std.specs.List.{slice_get, prefix_len, list_all}
 use Rattle.clauses.specs.Clauses.{Clause}
 use Rattle.shelf.specs.Lines.{Lines, find}
@@ -45,6 +45,10 @@ stands n i xs = named n (slice_get xs i)
 -- the place of the number's line, if there is one
 abbrev pub spot : ℕ → Lines → Option ℕ
 spot n xs = cond (is_some (find xs n)) (Some (place n xs)) None
+
+-- that place, or else the one where it would stand
+abbrev pub seat : ℕ → Lines → Result ℕ ℕ
+seat n xs = cond (is_some (find xs n)) (Ok (place n xs)) (Err (place n xs))
 
 -- how many literals the lines have together
 abbrev pub literals_in : Lines → ℕ

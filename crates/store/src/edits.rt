@@ -1,7 +1,7 @@
-ghost use Rattle.std.specs.Prelude.{◌≡◌, ◌+◌, ◌<◌, ◌≤◌, false, [], length, take, IfOk, vec_len};
+ghost use Rattle.std.specs.Prelude.{◌≡◌, ◌+◌, ◌<◌, ◌≤◌, [], length, take, IfOk, None, vec_len};
 ghost use Rattle.std.specs.List.{remove};
-ghost use Rattle.shelf.specs.Lines.{insert as insert_in};
-ghost use Rattle.store.specs.Rows.{lengths, place, stands, literals_in};
+ghost use Rattle.shelf.specs.Lines.{find as find_in, insert as insert_in};
+ghost use Rattle.store.specs.Rows.{lengths, place, literals_in};
 ghost use Rattle.store.specs.Stores.{lines_of, line_room, literal_room, Roomy};
 
 use crate::entry::Entry;
@@ -51,7 +51,7 @@ impl Store {
     /// Puts a line in at the place of its number.
     pub(crate) fn insert(&mut self, at: usize, number: u32, literals: &[i32])
         requires place { at ≡ place number (lines_of self.old) }
-        requires free { stands number at (lines_of self.old) ≡ false }
+        requires free { find_in (lines_of self.old) number ≡ None }
         requires lines { length (lines_of self.old) < line_room self.old }
         requires literals { literals_in (lines_of self.old) + length literals.now ≤ literal_room self.old }
         ensures lines { lines_of self.new ≡ insert_in number literals.now (lines_of self.old) }

@@ -1,25 +1,27 @@
 ghost use Rattle.std.specs.Prelude.{◌≡◌};
 ghost use Rattle.clauses.specs.Clauses.{length_of, clause_literal};
 ghost use Rattle.shelf.specs.Lines.{find as find_in};
-ghost use Rattle.store.specs.Rows.{place, stands, spot};
+ghost use Rattle.store.specs.Rows.{stands, spot, seat};
 ghost use Rattle.store.specs.Stores.{lines_of, Untouched};
 
 use crate::store::Store;
 
 impl Store {
-    /// How many lines have a smaller number.
-    pub(crate) fn seek(&self, number: u32) -> usize
-        ensures { result ≡ place number (lines_of self.now) }
+    /// The place of the number's line, or else the place where it would stand.
+    pub(crate) fn seek(&self, number: u32) -> Result<usize, usize>
+        ensures { result ≡ seat number (lines_of self.now) }
     {
         match self.entries.last() {
             // Most lines are kept in rising order of number: such a one stands behind all others.
-            Some(last) if last.number < number => self.entries.len(),
-            _ => self.entries.partition_point(|entry| entry.number < number),
+            Some(last) if last.number < number => Err(self.entries.len()),
+            _ => self
+                .entries
+                .binary_search_by_key(&number, |entry| entry.number),
         }
     }
 
     /// Whether the line at a place has the number.
-    pub(crate) fn is_at(&self, at: usize, number: u32) -> bool
+    fn is_at(&self, at: usize, number: u32) -> bool
         ensures { result ≡ stands number at (lines_of self.now) }
     {
         self.entries
@@ -35,10 +37,7 @@ impl Store {
         if self.is_at(self.memo, number) {
             return Some(self.memo);
         }
-        let at = self.seek(number);
-        if !self.is_at(at, number) {
-            return None;
-        }
+        let at = self.seek(number).ok()?;
         self.memo = at;
         Some(at)
     }
