@@ -53,11 +53,17 @@ lined_behind vs ws ts at from n w h long t =
     ∙ (omega (arith, length-append (take at vs) (lined_up from (drop at vs)), length-take-le at vs h, length_lined_up from (drop at vs), length-drop at vs)) in
     take_at (put_mid at (length ws - at) ws ts) (drop (length (put_mid at (length ws - at) ws ts)) vs) n size ∙ part
 
-pub lined_put : (es vs : List Entry) (at from : ℕ) (e : Entry) → vs ≡ insert es at e → at ≤ length es
-    → take at vs ++ lined_up from (drop at vs) ≡ take at es ++ lined_up from (e ∷ drop at es)
-lined_put es vs at from e v h =
-    ap (λ zs. take at zs ++ lined_up from (drop at zs)) v
-    ∙ ap₂ (λ p q. p ++ lined_up from q) (take_at (take at es) (e ∷ drop at es) at (length-take-le at es h)) (drop_at (take at es) (e ∷ drop at es) at (length-take-le at es h))
+pub length_behind : (es ws : List Entry) (at from : ℕ) → ws ≡ take at es ++ lined_up from (drop at es) → at ≤ length es → length ws ≡ length es
+length_behind es ws at from w h =
+    ap length w
+    ∙ (omega (arith, length-append (take at es) (lined_up from (drop at es)), length-take-le at es h, length_lined_up from (drop at es), length-drop at es))
+
+pub lined_put : (es ws vs : List Entry) (at from : ℕ) (e : Entry) → ws ≡ take at es ++ lined_up from (drop at es) → vs ≡ insert ws at e → at ≤ length es
+    → vs ≡ take at es ++ e ∷ lined_up from (drop at es)
+lined_put es ws vs at from e w v h =
+    let front = length-take-le at es h in
+    v ∙ ap (λ zs. insert zs at e) w
+    ∙ ap₂ (λ p q. p ++ e ∷ q) (take_at (take at es) (lined_up from (drop at es)) at front) (drop_at (take at es) (lined_up from (drop at es)) at front)
 
 pub lined_left : (es vs : List Entry) (at from : ℕ) → vs ≡ remove es at → at < length es
     → take at vs ++ lined_up from (drop at vs) ≡ take at es ++ lined_up from (drop (suc at) es)
@@ -67,8 +73,5 @@ lined_left es vs at from v h =
     ∙ ap₂ (λ p q. p ++ lined_up from q) (take_at (take at es) (drop (suc at) es) at front) (drop_at (take at es) (drop (suc at) es) at front)
 
 -- what is behind the place then
-pub behind_put : (es vs : List Entry) (at : ℕ) (e : Entry) → vs ≡ insert es at e → at ≤ length es → drop at vs ≡ e ∷ drop at es
-behind_put es vs at e v h = ap (drop at) v ∙ drop_at (take at es) (e ∷ drop at es) at (length-take-le at es h)
-
 pub behind_left : (es vs : List Entry) (at : ℕ) → vs ≡ remove es at → at < length es → drop at vs ≡ drop (suc at) es
 behind_left es vs at v h = ap (drop at) v ∙ drop_at (take at es) (drop (suc at) es) at (length-take-le at es (omega arith))

@@ -60,6 +60,7 @@ impl Store {
         let start = self.start(at);
         let length = literals.len();
         put_in(&mut self.row, start, literals);
+        line_up(&mut self.entries, at, start + length);
         let entry = Entry {
             number,
             start,
@@ -67,7 +68,6 @@ impl Store {
         };
         // There is room for it, so this does not fail.
         let _ = self.entries.insert(at, entry);
-        line_up(&mut self.entries, at, start);
     }
 
     /// Takes the line at a place out.
