@@ -6,12 +6,12 @@ work=$(mktemp -d)
 trap 'rm -rf "$work"' EXIT
 mkdir -p "$work/crates/shelfbench/src"
 # What is proved already, in out/ folders, comes along and need not be proved again.
-for crate in refusals clauses shelf store pool slots; do
+for crate in refusals clauses shelf store stored pool slots; do
     cp -r "$root/crates/$crate" "$work/crates/$crate"
     rm -rf "$work/crates/$crate/must-fail"
     grep "^$crate:" "$root/crates.txt" >> "$work/crates.txt"
 done
-echo 'shelfbench: refusals clauses shelf store pool slots anyhow' >> "$work/crates.txt"
+echo 'shelfbench: refusals clauses shelf store stored pool slots anyhow' >> "$work/crates.txt"
 cp "$root/bench/shelves/main.rt.txt" "$work/crates/shelfbench/src/main.rt"
 # The first run is that of `rt run`, which proves and links the program; the second is the one that is shown.
 (cd "$work/crates/shelfbench" && rt run > "$work/log" 2>&1) || true

@@ -24,44 +24,26 @@ mod tests {
         Wiped,
     }
 
-    fn take_step<S: Shelf>(rt: &impl Abort, shelf: &mut S, step: Step) -> Result<(), Fail> {
+    fn take_step<S: Shelf>(rt: &impl Abort, shelf: &mut S, step: Step) {
         match step {
-            Step::Kept(number, literals) => {
-                assert_eq!(rt; shelf.keep(number, literals), Ok(()));
-                Ok(())
-            },
+            Step::Kept(number, literals) => assert_eq!(rt; shelf.keep(number, literals), Ok(())),
             Step::Refused(number, literals) => {
-                assert_eq!(rt; shelf.keep(number, literals), Err(Refusal::Space));
-                Ok(())
+                assert_eq!(rt; shelf.keep(number, literals), Err(Refusal::Space))
             },
-            Step::Struck(number) => {
-                assert_eq!(rt; shelf.strike(number), Ok(()));
-                Ok(())
-            },
-            Step::Absent(number) => {
-                assert_eq!(rt; shelf.strike(number), Err(Refusal::Absent));
-                Ok(())
-            },
-            Step::Length(number, length) => {
-                assert_eq!(rt; shelf.length(number), length);
-                Ok(())
-            },
+            Step::Struck(number) => assert_eq!(rt; shelf.strike(number), Ok(())),
+            Step::Absent(number) => assert_eq!(rt; shelf.strike(number), Err(Refusal::Absent)),
+            Step::Length(number, length) => assert_eq!(rt; shelf.length(number), length),
             Step::Literal(number, at, literal) => {
-                assert_eq!(rt; shelf.literal(number, at), literal);
-                Ok(())
+                assert_eq!(rt; shelf.literal(number, at), literal)
             },
-            Step::Wiped => {
-                shelf.wipe();
-                Ok(())
-            }
+            Step::Wiped => shelf.wipe(),
         }
     }
 
-    fn take_steps<S: Shelf>(rt: &impl Abort, shelf: &mut S, steps: &[Step]) -> Result<(), Fail> {
+    fn take_steps<S: Shelf>(rt: &impl Abort, shelf: &mut S, steps: &[Step]) {
         for step in steps {
-            take_step(rt, shelf, *step)?;
+            take_step(rt, shelf, *step);
         }
-        Ok(())
     }
 
     #[test]
@@ -77,7 +59,8 @@ mod tests {
             Step::Literal(2, 0, None),
             Step::Refused(3, &[]),
         ];
-        take_steps(&rt, &mut Slots::new(rt.alloc(), 68)?, &steps)
+        take_steps(&rt, &mut Slots::new(rt.alloc(), 68)?, &steps);
+        Ok(())
     }
 
     #[test]
@@ -104,7 +87,8 @@ mod tests {
             Step::Literal(2, 1, Some(4)),
             Step::Literal(3, 0, Some(5)),
         ];
-        take_steps(&rt, &mut Pool::new(rt.alloc(), 12)?, &steps)
+        take_steps(&rt, &mut Pool::new(rt.alloc(), 12)?, &steps);
+        Ok(())
     }
 
     // The line in the middle takes 4 of 12 words, and one word is free: neither alone has room for a line of 3 literals.
@@ -125,7 +109,8 @@ mod tests {
             Step::Literal(4, 2, Some(8)),
             Step::Refused(5, &[]),
         ];
-        take_steps(&rt, &mut Pool::new(rt.alloc(), 12)?, &steps)
+        take_steps(&rt, &mut Pool::new(rt.alloc(), 12)?, &steps);
+        Ok(())
     }
 
     #[test]
@@ -142,7 +127,8 @@ mod tests {
             Step::Literal(3, 0, Some(3)),
             Step::Literal(4, 31, Some(4)),
         ];
-        take_steps(&rt, &mut Slots::new(rt.alloc(), 102)?, &steps)
+        take_steps(&rt, &mut Slots::new(rt.alloc(), 102)?, &steps);
+        Ok(())
     }
 
     // A number is kept once, whatever the line, and in any order; 0 and the largest are numbers as any other.
@@ -168,8 +154,9 @@ mod tests {
             Step::Literal(9, 0, Some(9)),
         ];
         let heap = rt.alloc();
-        take_steps(&rt, &mut Slots::new(heap, 340)?, &steps)?;
-        take_steps(&rt, &mut Pool::new(heap, 100)?, &steps)
+        take_steps(&rt, &mut Slots::new(heap, 340)?, &steps);
+        take_steps(&rt, &mut Pool::new(heap, 100)?, &steps);
+        Ok(())
     }
 
     // What was wiped can be kept again, to the last word.
@@ -185,7 +172,8 @@ mod tests {
             Step::Literal(1, 2, Some(6)),
             Step::Refused(3, &[]),
         ];
-        take_steps(&rt, &mut Pool::new(rt.alloc(), 5)?, &steps)
+        take_steps(&rt, &mut Pool::new(rt.alloc(), 5)?, &steps);
+        Ok(())
     }
 
     #[test]
@@ -198,9 +186,10 @@ mod tests {
             Step::Refused(1, &[]),
         ];
         let heap = rt.alloc();
-        take_steps(&rt, &mut Pool::new(heap, 0)?, &steps)?;
-        take_steps(&rt, &mut Pool::new(heap, 1)?, &steps)?;
-        take_steps(&rt, &mut Slots::new(heap, 33)?, &steps)
+        take_steps(&rt, &mut Pool::new(heap, 0)?, &steps);
+        take_steps(&rt, &mut Pool::new(heap, 1)?, &steps);
+        take_steps(&rt, &mut Slots::new(heap, 33)?, &steps);
+        Ok(())
     }
 
     #[test]

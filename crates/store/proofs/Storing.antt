@@ -1,29 +1,19 @@
 -- What a store holds after a line was put in or taken out.
-use Rattle.std.proofs.Common.{◌≡◌, ℕ, zero, suc, ◌+◌, ◌-◌, ◌<◌, ◌≤◌, Bool, true, false, cond, not, ◌&&◌, ltb, leb, List, [], ◌∷◌, ◌++◌, map, length, get_or, take, drop, ℤ, is_some, Some, None, Option, sym, ap, ◌∙◌, ap₂, arith}
+use Rattle.std.proofs.Common.{◌≡◌, ℕ, zero, suc, ◌+◌, ◌-◌, ◌<◌, ◌≤◌, Bool, true, cond, not, ◌&&◌, ltb, leb, List, [], ◌∷◌, ◌++◌, length, get_or, take, drop, ℤ, Some, None, sym, ap, ◌∙◌, ap₂, arith}
 use Rattle.std.specs.List.{insert as inserted, remove as removed, AllByRecursion as AllOf}
 use Rattle.std.proofs.lemmas.List.{length-append, length-take-le, length-drop}
 use Rattle.std.proofs.ByRecursion.{All-append, All-take, All-drop}
 use Rattle.std.proofs.lemmas.Bool.Decides.{nat_tests}
-use Rattle.std.proofs.lemmas.Bool.{le-ltb, lt-ltb, le-leb, cond-true, cond-false, and_left, and_right, and_from, not_from_true, not_from_false}
+use Rattle.std.proofs.lemmas.Bool.{le-ltb, lt-ltb, le-leb, and_left, and_from}
 use Rattle.clauses.specs.Clauses.{Clause}
 use Rattle.shelf.specs.Lines.{Lines, Rising, find, insert, remove}
 use Rattle.shelf.proofs.Lines.{rising_insert, remove_none}
 use Rattle.store.specs.declared.entry.Entry.{Entry}
 use Rattle.store.specs.declared.store.Store.{Store}
-use Rattle.store.specs.Rows.{cut, lengths, packed, rises, place, stands, spot, later, earlier, literals_in}
+use Rattle.store.specs.Rows.{cut, lengths, packed, rises, place, spot, lined_up, literals_in}
 use Rattle.store.specs.Stores.{lines_of, line_room, literal_room, fits}
-use Rattle.store.proofs.Places.{
-  rising_from_rises,
-  rises_from_rising,
-  stands_within,
-  find_stands,
-  find_none,
-  found_stands,
-  none_found,
-  insert_place,
-  remove_stands,
-}
-use Rattle.store.proofs.Cuts.{cut_put_in, cut_taken_out, packed_put_in, packed_taken_out, lengths_within, entry_ends}
+use Rattle.store.proofs.Places.{rising_from_rises, rises_from_rising, stands_within, found_stands, none_found, insert_place, remove_stands}
+use Rattle.store.proofs.Cuts.{cut_put_in, cut_taken_out, packed_behind, all_lengths, lengths_more, lengths_parts, lengths_within, entry_ends}
 
 -- the parts of a store
 pub record Sound (es : List Entry) (row : List ℤ) : Type 0 where
@@ -32,23 +22,20 @@ pub record Sound (es : List Entry) (row : List ℤ) : Type 0 where
 
 -- ---- put in
 
-pub absent : (n at : ℕ) (xs : Lines) → rises xs ≡ true → at ≡ place n xs → stands n at xs ≡ false → find xs n ≡ None
-absent n at xs r is free = find_none n xs (rising_from_rises xs r) (ap (λ k. stands n k xs) (sym is) ∙ free)
-
 pub put_lines : (es fs : List Entry) (row next c : List ℤ) (at : ℕ) (e : Entry) → Sound es row
-    → at ≡ place e.number (cut es row) → stands e.number at (cut es row) ≡ false → e.start ≡ lengths (take at es) → e.length ≡ length c
-    → fs ≡ take at es ++ e ∷ map (later e.length) (drop at es) → next ≡ take e.start row ++ (c ++ drop e.start row)
+    → at ≡ place e.number (cut es row) → find (cut es row) e.number ≡ None → e.start ≡ lengths (take at es) → e.length ≡ length c
+    → fs ≡ take at es ++ lined_up e.start (e ∷ drop at es) → next ≡ take e.start row ++ (c ++ drop e.start row)
     → cut fs next ≡ insert e.number c (cut es row)
 put_lines es fs row next c at e s is free start len f r =
     let xs = cut es row in
-    ap₂ cut (f ∙ ap (λ k. take at es ++ e ∷ map (later k) (drop at es)) len) (r ∙ ap (λ k. take k row ++ (c ++ drop k row)) start)
-    ∙ cut_put_in es row c at e (lengths_within es at (length row) s.tight) len
+    ap₂ cut f (r ∙ ap (λ k. take k row ++ (c ++ drop k row)) start)
+    ∙ cut_put_in es row c at e.start e (lengths_within es at (length row) s.tight) len
     ∙ ap (λ k. inserted xs k (e.number, c)) is
-    ∙ sym (insert_place e.number c xs (absent e.number at xs s.rising is free))
+    ∙ sym (insert_place e.number c xs free)
 
 pub put_sound : (es fs : List Entry) (row next c : List ℤ) (at : ℕ) (e : Entry) → Sound es row
-    → at ≡ place e.number (cut es row) → stands e.number at (cut es row) ≡ false → e.start ≡ lengths (take at es) → e.length ≡ length c
-    → fs ≡ take at es ++ e ∷ map (later e.length) (drop at es) → next ≡ take e.start row ++ (c ++ drop e.start row)
+    → at ≡ place e.number (cut es row) → find (cut es row) e.number ≡ None → e.start ≡ lengths (take at es) → e.length ≡ length c
+    → fs ≡ take at es ++ lined_up e.start (e ∷ drop at es) → next ≡ take e.start row ++ (c ++ drop e.start row)
     → Sound fs next
 put_sound es fs row next c at e s is free start len f r =
     let xs = cut es row in
@@ -66,8 +53,9 @@ put_sound es fs row next c at e s is free start len f r =
     ) in
     record {
       rising = ap rises (put_lines es fs row next c at e s is free start len f r)
-          ∙ rises_from_rising (insert n c xs) (rising_insert n c xs (absent n at xs s.rising is free) (rising_from_rises xs s.rising));
-      tight = ap₂ (packed 0) f size ∙ packed_put_in es at (length row) e s.tight start;
+          ∙ rises_from_rising (insert n c xs) (rising_insert n c xs free (rising_from_rises xs s.rising));
+      tight = ap (λ zs. packed 0 zs (length next)) (f ∙ ap (λ k. take at es ++ lined_up k (e ∷ drop at es)) start)
+          ∙ packed_behind es (e ∷ drop at es) at (length row) (length next) s.tight (omega (arith, lengths_parts es at, all_lengths es 0 (length row) s.tight));
     }
 
 -- ---- taken out
@@ -83,21 +71,22 @@ rising_removed zero (x ∷ xs) r = r.1
 rising_removed (suc i) (x ∷ xs) r = (all_removed x.0 i xs r.0, rising_removed i xs r.1)
 
 pub taken_lines : (es fs : List Entry) (row next : List ℤ) (at : ℕ) (e : Entry) → Sound es row → at < length es → e ≡ get_or es at e
-    → fs ≡ take at es ++ map (earlier e.length) (drop (suc at) es) → next ≡ take e.start row ++ drop (e.start + e.length) row
+    → fs ≡ take at es ++ lined_up e.start (drop (suc at) es) → next ≡ take e.start row ++ drop (e.start + e.length) row
     → cut fs next ≡ removed (cut es row) at
 taken_lines es fs row next at e s h is f r =
     let start : e.start ≡ lengths (take at es) = omega (arith, ap (λ x. x.start) is, (entry_ends es 0 (length row) at e s.tight h).1) in
     let len : e.length ≡ (get_or es at e).length = ap (λ x. x.length) is in
-    ap₂ cut (f ∙ ap (λ k. take at es ++ map (earlier k) (drop (suc at) es)) len) (r ∙ ap₂ (λ k l. take k row ++ drop (k + l) row) start len)
-    ∙ cut_taken_out es row at e h (lengths_within es at (length row) s.tight)
+    ap₂ cut f (r ∙ ap₂ (λ k l. take k row ++ drop (k + l) row) start len)
+    ∙ cut_taken_out es row at e.start e h (lengths_within es at (length row) s.tight)
 
 pub taken_sound : (es fs : List Entry) (row next : List ℤ) (at : ℕ) (e : Entry) → Sound es row → at < length es → e ≡ get_or es at e
-    → fs ≡ take at es ++ map (earlier e.length) (drop (suc at) es) → next ≡ take e.start row ++ drop (e.start + e.length) row
+    → fs ≡ take at es ++ lined_up e.start (drop (suc at) es) → next ≡ take e.start row ++ drop (e.start + e.length) row
     → Sound fs next
 taken_sound es fs row next at e s h is f r =
     let xs = cut es row in
     let len : e.length ≡ (get_or es at e).length = ap (λ x. x.length) is in
     let ends = entry_ends es 0 (length row) at e s.tight h in
+    let start : e.start ≡ lengths (take at es) = omega (arith, ap (λ x. x.start) is, ends.1) in
     let size : length next ≡ length row - (get_or es at e).length =
     ap length r ∙ (
     omega (
@@ -111,35 +100,11 @@ taken_sound es fs row next at e s h is f r =
     ) in
     record {
       rising = ap rises (taken_lines es fs row next at e s h is f r) ∙ rises_from_rising (removed xs at) (rising_removed at xs (rising_from_rises xs s.rising));
-      tight = ap₂ (packed 0) (f ∙ ap (λ k. take at es ++ map (earlier k) (drop (suc at) es)) len) size ∙ packed_taken_out es at (length row) e h s.tight;
+      tight = ap (λ zs. packed 0 zs (length next)) (f ∙ ap (λ k. take at es ++ lined_up k (drop (suc at) es)) start)
+          ∙ packed_behind es (drop (suc at) es) at (length row) (length next) s.tight (omega (arith, lengths_more es at e h, lengths_parts es (suc at), all_lengths es 0 (length row) s.tight));
     }
 
--- ---- whether a line is kept, or struck
-
-pub not_kept_unfit : {A : Type 0} (o : Option Clause) (fits : Bool) (x y : A) → fits ≡ false → y ≡ cond (not (is_some o) && fits) x y
-not_kept_unfit o fits x y e = sym (cond-false (not (is_some o) && fits) x y (and_right (not (is_some o)) fits e))
-
-pub not_kept_present : {A : Type 0} (n at : ℕ) (xs : Lines) (fits : Bool) (x y : A) → rises xs ≡ true → stands n at xs ≡ true
-    → y ≡ cond (not (is_some (find xs n)) && fits) x y
-not_kept_present n at xs fits x y r s =
-    let there = ap is_some (find_stands n at xs (0, []) (rising_from_rises xs r) s) in
-    sym (cond-false (not (is_some (find xs n)) && fits) x y (and_left (not (is_some (find xs n))) fits (not_from_true (is_some (find xs n)) there)))
-
-pub kept : {A : Type 0} (n : ℕ) (xs : Lines) (fits : Bool) (x y : A) → find xs n ≡ None → fits ≡ true → x ≡ cond (not (is_some (find xs n)) && fits) x y
-kept n xs fits x y free e =
-    sym (
-    cond-true (not (is_some (find xs n)) && fits) x y (
-    and_from (not (is_some (find xs n))) fits (not_from_false (is_some (find xs n)) (ap is_some free)) e
-    )
-    )
-
-pub not_struck : {A : Type 0} (n : ℕ) (xs : Lines) (x y : A) → None ≡ spot n xs → y ≡ cond (is_some (find xs n)) x y
-not_struck n xs x y s = sym (cond-false (is_some (find xs n)) x y (ap is_some (none_found n xs (sym s))))
-
-pub struck : {A : Type 0} (n at : ℕ) (xs : Lines) (x y : A) → rises xs ≡ true → Some at ≡ spot n xs → x ≡ cond (is_some (find xs n)) x y
-struck n at xs x y r s =
-    let rising = rising_from_rises xs r in
-    sym (cond-true (is_some (find xs n)) x y (ap is_some (find_stands n at xs (0, []) rising (found_stands n at xs rising (sym s)))))
+-- ---- what is struck
 
 -- what stays where nothing is struck, and where something is
 pub left_all : (n : ℕ) (xs ys : Lines) → None ≡ spot n xs → ys ≡ xs → ys ≡ remove n xs

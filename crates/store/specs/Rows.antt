@@ -1,5 +1,5 @@
 -- Lines in a row: their literals one after the other, and an entry for each line.
-use Rattle.std.specs.Prelude.{ℕ, ◌+◌, ◌-◌, Bool, true, false, cond, ◌&&◌, List, [], ◌∷◌, length, take, drop, ℤ, is_some, Some, None, Option, ◌==◌, nat_lt}
+use Rattle.std.specs.Prelude.{ℕ, ◌+◌, Bool, true, false, cond, ◌&&◌, List, [], ◌∷◌, length, take, drop, ℤ, is_some, Some, None, Option, Ok, Err, Result, ◌==◌, nat_lt}
 use Rattle.std.specs.List.{slice_get, prefix_len, list_all}
 use Rattle.clauses.specs.Clauses.{Clause}
 use Rattle.shelf.specs.Lines.{Lines, find}
@@ -20,12 +20,10 @@ abbrev pub packed : ℕ → List Entry → ℕ → Bool
 packed at [] end = at == end
 packed at (e ∷ es) end = e.start == at && packed (at + e.length) es end
 
--- the entry of a line that was moved on, or back
-abbrev pub later : ℕ → Entry → Entry
-later by e = record { number = e.number; start = e.start + by; length = e.length }
-
-abbrev pub earlier : ℕ → Entry → Entry
-earlier by e = record { number = e.number; start = e.start - by; length = e.length }
+-- The entries of the same lines, the first of which starts at a place, and each other where the one before it ends.
+abbrev pub lined_up : ℕ → List Entry → List Entry
+lined_up at [] = []
+lined_up at (e ∷ es) = record { number = e.number; start = at; length = e.length } ∷ lined_up (at + e.length) es
 
 -- The numbers rise.
 abbrev pub rises : Lines → Bool
@@ -47,6 +45,10 @@ stands n i xs = named n (slice_get xs i)
 -- the place of the number's line, if there is one
 abbrev pub spot : ℕ → Lines → Option ℕ
 spot n xs = cond (is_some (find xs n)) (Some (place n xs)) None
+
+-- that place, or else the one where it would stand
+abbrev pub seat : ℕ → Lines → Result ℕ ℕ
+seat n xs = cond (is_some (find xs n)) (Ok (place n xs)) (Err (place n xs))
 
 -- how many literals the lines have together
 abbrev pub literals_in : Lines → ℕ

@@ -1,11 +1,11 @@
-ghost use Rattle.std.specs.Prelude.{◌≡◌, ◌+◌, ◌<◌, ◌≤◌, false, [], length, take, IfOk, vec_len};
+ghost use Rattle.std.specs.Prelude.{◌≡◌, ◌+◌, ◌<◌, ◌≤◌, [], length, take, IfOk, None, vec_len};
 ghost use Rattle.std.specs.List.{remove};
-ghost use Rattle.shelf.specs.Lines.{insert as insert_in};
-ghost use Rattle.store.specs.Rows.{lengths, place, stands, literals_in};
+ghost use Rattle.shelf.specs.Lines.{find as find_in, insert as insert_in};
+ghost use Rattle.store.specs.Rows.{lengths, place, literals_in};
 ghost use Rattle.store.specs.Stores.{lines_of, line_room, literal_room, Roomy};
 
 use crate::entry::Entry;
-use crate::moves::{put_entry, put_in, take_entry, take_out};
+use crate::moves::{line_up, put_in};
 use crate::store::Store;
 use std::alloc::{AllocError, Global};
 
@@ -43,17 +43,15 @@ impl Store {
         ensures is { result ≡ lengths (take at self.now.entries.items) }
         ensures within { result ≤ vec_len self.now.row }
     {
-        if at < self.lines() {
-            self.entries[at].start
-        } else {
-            self.literals()
-        }
+        self.entries
+            .get(at)
+            .map_or(self.literals(), |entry| entry.start)
     }
 
     /// Puts a line in at the place of its number.
     pub(crate) fn insert(&mut self, at: usize, number: u32, literals: &[i32])
         requires place { at ≡ place number (lines_of self.old) }
-        requires free { stands number at (lines_of self.old) ≡ false }
+        requires free { find_in (lines_of self.old) number ≡ None }
         requires lines { length (lines_of self.old) < line_room self.old }
         requires literals { literals_in (lines_of self.old) + length literals.now ≤ literal_room self.old }
         ensures lines { lines_of self.new ≡ insert_in number literals.now (lines_of self.old) }
@@ -62,12 +60,14 @@ impl Store {
         let start = self.start(at);
         let length = literals.len();
         put_in(&mut self.row, start, literals);
+        line_up(&mut self.entries, at, start + length);
         let entry = Entry {
             number,
             start,
             length,
         };
-        put_entry(&mut self.entries, at, entry);
+        // There is room for it, so this does not fail.
+        let _ = self.entries.insert(at, entry);
     }
 
     /// Takes the line at a place out.
@@ -76,9 +76,9 @@ impl Store {
         ensures lines { lines_of self.new ≡ remove (lines_of self.old) at }
         ensures room { Roomy self.old self.new }
     {
-        let entry = self.entries[at];
-        take_out(&mut self.row, entry.start, entry.length);
-        take_entry(&mut self.entries, at, entry.length);
+        let entry = self.entries.remove(at);
+        drop(self.row.drain(entry.start..entry.start + entry.length));
+        line_up(&mut self.entries, at, entry.start);
     }
 
     /// Takes all lines out.

@@ -23,12 +23,13 @@ impl Store {
         ensures lines { lines_of self.new ≡ (if is_ok result then insert_in number literals.now (lines_of self.old) else lines_of self.old) }
         ensures room { Roomy self.old self.new }
     {
-        let at = self.seek(number);
-        if !self.has_room(literals.len()) || self.is_at(at, number) {
-            return Err(Refusal::Space);
+        match self.seek(number) {
+            Err(at) if self.has_room(literals.len()) => {
+                self.insert(at, number, literals);
+                Ok(())
+            }
+            _ => Err(Refusal::Space),
         }
-        self.insert(at, number, literals);
-        Ok(())
     }
 
     /// Takes the line of a number away, if there is one.
@@ -38,12 +39,8 @@ impl Store {
         ensures lines { lines_of self.new ≡ remove_from number (lines_of self.old) }
         ensures room { Roomy self.old self.new }
     {
-        match self.find(number) {
-            None => Err(Refusal::Absent),
-            Some(at) => {
-                self.remove(at);
-                Ok(())
-            }
-        }
+        let at = self.find(number).ok_or(Refusal::Absent)?;
+        self.remove(at);
+        Ok(())
     }
 }

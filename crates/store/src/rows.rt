@@ -1,38 +1,32 @@
 ghost use Rattle.std.specs.Prelude.{◌≡◌};
 ghost use Rattle.clauses.specs.Clauses.{length_of, clause_literal};
 ghost use Rattle.shelf.specs.Lines.{find as find_in};
-ghost use Rattle.store.specs.Rows.{place, stands, spot};
+ghost use Rattle.store.specs.Rows.{stands, spot, seat};
 ghost use Rattle.store.specs.Stores.{lines_of, Untouched};
 
 use crate::store::Store;
 
 impl Store {
-    /// How many lines have a smaller number.
-    pub(crate) fn seek(&self, number: u32) -> usize
-        ensures { result ≡ place number (lines_of self.now) }
+    /// The place of the number's line, or else the place where it would stand.
+    pub(crate) fn seek(&self, number: u32) -> Result<usize, usize>
+        ensures { result ≡ seat number (lines_of self.now) }
     {
-        let mut low = 0;
-        let mut high = self.entries.len();
-        // Most lines are kept in rising order of number: such a one stands behind all others.
-        if high > 0 && self.entries[high - 1].number < number {
-            return high;
+        match self.entries.last() {
+            // Most lines are kept in rising order of number: such a one stands behind all others.
+            Some(last) if last.number < number => Err(self.entries.len()),
+            _ => self
+                .entries
+                .binary_search_by_key(&number, |entry| entry.number),
         }
-        'halves: while low < high {
-            let middle = low + (high - low) / 2;
-            if self.entries[middle].number < number {
-                low = middle + 1;
-            } else {
-                high = middle;
-            }
-        }
-        low
     }
 
     /// Whether the line at a place has the number.
-    pub(crate) fn is_at(&self, at: usize, number: u32) -> bool
+    fn is_at(&self, at: usize, number: u32) -> bool
         ensures { result ≡ stands number at (lines_of self.now) }
     {
-        at < self.entries.len() && self.entries[at].number == number
+        self.entries
+            .get(at)
+            .is_some_and(|entry| entry.number == number)
     }
 
     /// The place of the number's line, if there is one.
@@ -43,13 +37,9 @@ impl Store {
         if self.is_at(self.memo, number) {
             return Some(self.memo);
         }
-        let at = self.seek(number);
-        if self.is_at(at, number) {
-            self.memo = at;
-            Some(at)
-        } else {
-            None
-        }
+        let at = self.seek(number).ok()?;
+        self.memo = at;
+        Some(at)
     }
 
     /// How many literals the number's line has, if there is one.
@@ -68,10 +58,7 @@ impl Store {
     {
         let line = self.find(number)?;
         let entry = self.entries[line];
-        if at < entry.length {
-            Some(self.row[entry.start + at])
-        } else {
-            None
-        }
+        let literals = &self.row[entry.start..entry.start + entry.length];
+        literals.get(at).copied()
     }
 }

@@ -5,7 +5,9 @@ use crate::entry::Entry;
 
 /// Lines in rising order of number: their literals in one row, line after line, and an entry for each.
 ///
+/// Row and entries have their room from the start, so that keeping a line never allocates.
 /// The memo is a place that may be the one asked for next; it is tested before it is used.
+// Its fields and no model: a shelf's law that the lines rise is read from the ghost field `rising`.
 #[derive(Drop)]
 pub struct Store {
     pub(crate) entries: Vec<Entry>,

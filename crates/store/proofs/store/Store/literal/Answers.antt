@@ -1,5 +1,7 @@
-use Rattle.std.proofs.Common.{◌≡◌, length, Some, vec_items, vec_len, ap, ◌∙◌, arith, to_z-of_z, w32, SFits, rules}
-use Rattle.store.proofs.Questions.{found_within, found_ends, found_literal, found_past}
+use Rattle.std.proofs.Common.{◌≡◌, ◌+◌, ◌≤◌, length, vec_items, vec_len, sym, ap, ◌∙◌, arith, rules}
+use Rattle.std.specs.List.{slice_range}
+use Rattle.store.proofs.Questions.{found_within, found_ends, found_literal}
+use Rattle.store.proofs.Seeking.{got}
 use Rattle.store.proofs.store.Store.literal.Goals as goal
 
 pub index-entry-requires : goal.index-entry-requires
@@ -9,32 +11,33 @@ index-entry-requires c =
     let within = found_within c.args.self.now t c.args.number c.in_ok-line.line c.find.result c.find.ensures.same c.find.ensures.answer c.in_ok-line.was in
     omega arith
 
-pub overflow_add-entry : goal.overflow_add-entry
-overflow_add-entry c =
+pub overflow_add-literals : goal.overflow_add-literals
+overflow_add-literals c =
     let t = c.find.new.self in
     let long : vec_len t.row ≡ length (vec_items t.row) = search rules in
     let ends = found_ends c.args.self.now t c.args.number c.in_ok-line.line c.find.result c.index-entry.result.now c.find.ensures.same c.find.ensures.answer c.in_ok-line.was c.index-entry.ensures in
     search rules
 
-pub index-requires : goal.index-requires
-index-requires c =
+pub offset_bounds-deref-entry : goal.offset_bounds-deref-entry
+offset_bounds-deref-entry c =
     let t = c.find.new.self in
     let long : vec_len t.row ≡ length (vec_items t.row) = search rules in
     let ends = found_ends c.args.self.now t c.args.number c.in_ok-line.line c.find.result c.index-entry.result.now c.find.ensures.same c.find.ensures.answer c.in_ok-line.was c.index-entry.ensures in
-    omega arith
+    let inside : c.index-entry.result.now.start ≤ length c.deref.result.now = omega (arith, c.deref.ensures.len) in
+    search rules
 
-pub returns-then-at-entry : goal.returns-then-at-entry
-returns-then-at-entry c =
-    let fits : SFits w32 c.index.result.now = search rules in
-    record {
-      answer = ap Some (to_z-of_z fits)
-          ∙ found_literal c.args.self.now c.find.new.self c.args.number c.in_ok-line.line c.args.at c.find.result c.index-entry.result.now c.index.result.now c.find.ensures.same c.find.ensures.answer c.in_ok-line.was c.index-entry.ensures c.if-at-entry.true c.index.ensures;
-      same = c.find.ensures.same;
-    }
+pub slice_bounds-literals-end : goal.slice_bounds-literals-end
+slice_bounds-literals-end c =
+    let t = c.find.new.self in
+    let long : vec_len t.row ≡ length (vec_items t.row) = search rules in
+    let ends = found_ends c.args.self.now t c.args.number c.in_ok-line.line c.find.result c.index-entry.result.now c.find.ensures.same c.find.ensures.answer c.in_ok-line.was c.index-entry.ensures in
+    let inside : c.index-entry.result.now.start + c.index-entry.result.now.length ≤ length c.deref.result.now = omega (arith, c.deref.ensures.len) in
+    search rules
 
-pub returns-else-at-entry : goal.returns-else-at-entry
-returns-else-at-entry c =
-    record {
-      answer = found_past c.args.self.now c.find.new.self c.args.number c.in_ok-line.line c.args.at c.find.result c.index-entry.result.now c.find.ensures.same c.find.ensures.answer c.in_ok-line.was c.index-entry.ensures c.if-at-entry.false;
-      same = c.find.ensures.same;
-    }
+pub returns-clause-answer : goal.returns-clause-answer
+returns-clause-answer c =
+    let t = c.find.new.self in
+    let e = c.index-entry.result.now in
+    let lookup = c.get.ensures.lookup.3 in
+    c.copied.ensures ∙ sym (got (slice_range (vec_items t.row) e.start (e.start + e.length)) _ c.args.at c.get.result (ap (λ r. slice_range r e.start (e.start + e.length)) c.deref.ensures.value) lookup)
+    ∙ found_literal c.args.self.now t c.args.number c.in_ok-line.line c.args.at c.find.result e c.find.ensures.same c.find.ensures.answer c.in_ok-line.was c.index-entry.ensures

@@ -1,32 +1,20 @@
-use Rattle.std.proofs.Common.{◌≡◌, ◌+◌, ◌-◌, ◌/◌, length, vec_items, vec_len, arith, rules}
-use Rattle.store.proofs.Seeking.{seek_within, seek_on, seek_back}
+use Rattle.std.proofs.Common.{◌≡◌, ◌-◌, length, Some, Err, vec_items, ap, ◌∙◌, rules}
+use Rattle.std.specs.List.{slice_get}
+use Rattle.std.proofs.lemmas.List.Sorted.{answers_always}
+use Rattle.store.specs.declared.entry.Entry.{Entry}
+use Rattle.store.proofs.Seeking.{seek_last, seek_found}
 use Rattle.store.proofs.store.Store.seek.Goals as goal
 
-pub returns-then-index-number : goal.returns-then-index-number
-returns-then-index-number c =
+pub returns-in-Some : goal.returns-in-Some
+returns-in-Some c =
     let s = c.args.self.now in
-    let long : vec_len s.entries ≡ length (vec_items s.entries) = search rules in
-    let within = seek_within (vec_items s.entries) (vec_items s.row) c.args.number in
-    let on = seek_on (vec_items s.entries) (vec_items s.row) c.args.number (c.len-high.result - 1) c.index.result.now s.rising (omega arith) c.index.ensures c.if-index-number.true in
-    omega arith
+    let long : c.len.result ≡ length (vec_items s.entries) = search rules in
+    let last : Some c.in-Some.last.now ≡ slice_get (vec_items s.entries) (length (vec_items s.entries) - 1) = search rules in
+    ap Err long ∙ seek_last (vec_items s.entries) (vec_items s.row) c.args.number c.in-Some.last.now s.rising last c.if-last-number.true
 
-pub halves-init : goal.halves-init
-halves-init c =
+pub returns-in_default : goal.returns-in_default
+returns-in_default c =
     let s = c.args.self.now in
-    let long : vec_len s.entries ≡ length (vec_items s.entries) = search rules in
-    let within = seek_within (vec_items s.entries) (vec_items s.row) c.args.number in
-    (omega arith, omega arith, omega arith)
-
-pub halves-preserved : goal.halves-preserved
-halves-preserved c =
-    let s = c.args.self.now in
-    let middle = c.halves.low + (c.halves.high - c.halves.low) / 2 in
-    let back = seek_back (vec_items s.entries) (vec_items s.row) c.args.number middle c.index-in-halves.result.now (omega arith) c.index-in-halves.ensures c.if-index-number-2.false in
-    (omega arith, back, omega arith)
-
-pub halves-preserved-then-index-number-2 : goal.halves-preserved-then-index-number-2
-halves-preserved-then-index-number-2 c =
-    let s = c.args.self.now in
-    let middle = c.halves.low + (c.halves.high - c.halves.low) / 2 in
-    let on = seek_on (vec_items s.entries) (vec_items s.row) c.args.number middle c.index-in-halves.result.now s.rising (omega arith) c.index-in-halves.ensures c.if-index-number-2.true in
-    (on, omega arith, omega arith)
+    let facts = c.binary_search_by_key.ensures in
+    let by_key = facts.position (λ (e : Entry). e.number) (answers_always _ _ _ (λ f a r g called. search rules)) in
+    seek_found (vec_items s.entries) (vec_items s.row) c.args.number _ s.rising (rw c.deref-in_default.ensures.value at facts.bound) (rw c.deref-in_default.ensures.value at by_key)

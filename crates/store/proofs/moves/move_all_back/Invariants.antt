@@ -1,6 +1,0 @@
-use Rattle.std.proofs.Common.{◌≡◌, ◌++◌, map, take, drop}
-use Rattle.store.specs.Rows.{earlier}
-use Rattle.store.proofs.moves.move_all_back.Given as goal
-
-abbrev pub invariant-loop-entry : goal.invariant-loop-entry
-invariant-loop-entry l = l.entries ≡ map (earlier l.by) (take l.entry-index l.initial.entries) ++ drop l.entry-index l.initial.entries
