@@ -27,25 +27,17 @@ more_digits n (d ∷ ds) = let h = more_digits (n * 10 + (d - 48)) ds in omega a
 
 -- a digit, and then digits
 pub first_digit : (d : ℕ) (ds : List ℕ) → all_ascii_digits (d ∷ ds) ≡ true → (is_ascii_digit d ≡ true) × (all_ascii_digits ds ≡ true)
-first_digit d ds h = go (is_ascii_digit d) refl
-  where
-    go : (b : Bool) → is_ascii_digit d ≡ b → (is_ascii_digit d ≡ true) × (all_ascii_digits ds ≡ true)
-    go true e = (e, ap (λ x. x && all_ascii_digits ds) (sym e) ∙ h)
-    go false e = let z : ◌≡◌ {A = Bool} false true = ap (λ x. x && all_ascii_digits ds) (sym e) ∙ h in grind arith
+first_digit d ds h = (search rules, search rules)
 
 pub scan_stops : (n : ℕ) (s : List ℕ) → Stops s → scan n s ≡ Some (n, s)
 scan_stops n [] h = refl
-scan_stops n (c ∷ cs) h = ap (λ b. cond b (cond (leb (n * 10 + (c - 48)) 2147483647) (scan (n * 10 + (c - 48)) cs) None) (Some (n, c ∷ cs))) h
+scan_stops n (c ∷ cs) h = rw h
 
 pub scan_digit : (n c : ℕ) (cs : List ℕ) → is_ascii_digit c ≡ true → n * 10 + (c - 48) ≤ 2147483647 → scan n (c ∷ cs) ≡ scan (n * 10 + (c - 48)) cs
-scan_digit n c cs d h =
-    ap (λ b. cond b (cond (leb (n * 10 + (c - 48)) 2147483647) (scan (n * 10 + (c - 48)) cs) None) (Some (n, c ∷ cs))) d
-    ∙ ap (λ b. cond b (scan (n * 10 + (c - 48)) cs) None) (le-leb (n * 10 + (c - 48)) 2147483647 h)
+scan_digit n c cs d h = rw (d, le-leb (n * 10 + (c - 48)) 2147483647 h)
 
 pub scan_large : (n c : ℕ) (cs : List ℕ) → is_ascii_digit c ≡ true → leb (n * 10 + (c - 48)) 2147483647 ≡ false → scan n (c ∷ cs) ≡ None
-scan_large n c cs d f =
-    ap (λ b. cond b (cond (leb (n * 10 + (c - 48)) 2147483647) (scan (n * 10 + (c - 48)) cs) None) (Some (n, c ∷ cs))) d
-    ∙ ap (λ b. cond b (scan (n * 10 + (c - 48)) cs) None) f
+scan_large n c cs d f = rw (d, f)
 
 -- Digits are scanned as the number that they write.
 pub scan_digits : (n : ℕ) (ds s : List ℕ) → all_ascii_digits ds ≡ true → Stops s → read_on n ds ≤ 2147483647 → scan n (ds ++ s) ≡ Some (read_on n ds, s)

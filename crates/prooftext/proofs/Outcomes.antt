@@ -1,5 +1,5 @@
 -- What a call of the reader answers and leaves is what belongs to what stands next.
-use Rattle.std.proofs.Common.{◌≡◌, ℕ, ◌+◌, ◌-◌, ◌<◌, ◌≤◌, Bool, true, false, cond, List, [], ◌++◌, length, drop, replicate, pos, Ok, Err, Result, sym, refl, ap, ◌∙◌, arith}
+use Rattle.std.proofs.Common.{◌≡◌, ℕ, ◌+◌, ◌-◌, ◌<◌, ◌≤◌, Bool, true, false, cond, List, [], ◌++◌, length, drop, replicate, pos, Ok, Err, Result, sym, refl, ap, ◌∙◌, subst, arith}
 use Rattle.std.proofs.lemmas.List.{drop_all, drop-replicate, length-replicate, length-drop, length-append}
 use Rattle.std.proofs.lemmas.Bool.Decides.{nat_tests}
 use Rattle.refusals.specs.declared.Refusal.{Refusal}
@@ -96,3 +96,11 @@ module _ (text : List ℕ) (before : State) where
           let held : after ≡ filled_with (literals_of i) (numbers_of i) before.rows =
           ap (λ xs. rows xs after.numbers) left ∙ ap (rows (filled (pos 0) (length before.rows.literals) (literals_of i))) right in
           pinned (entry i) (Ok item) (state next after) there (same_reading item (answer_of i) next _ after _ (sym found.2) moved held ∙ sym (rw (chosen, e) refl))
+
+  -- of rows that are given otherwise
+  module _ (place : ℕ) (answer : Result Item Refusal) (r left : Rows) (both : Both answer (state place r)) (same : left ≡ r) where
+    pub read_of : Read text before answer (state place left)
+    read_of = subst (λ x. Read text before answer (state place x)) (sym same) both.0
+
+    pub again_of : Reread text before answer (state place left)
+    again_of = subst (λ x. Reread text before answer (state place x)) (sym same) both.1

@@ -3,3 +3,4 @@ pub mod Lists
 pub mod Parts
 pub mod Items
 pub mod Readings
+pub mod Lent

@@ -7,6 +7,7 @@ mod lines;
 mod lists;
 mod next;
 pub mod reader;
+mod rows;
 
 pub use item::Item;
 pub use reader::Reader;

@@ -1,11 +1,12 @@
 ghost use Rattle.std.specs.Prelude.{MatchOption};
 ghost use Rattle.proofgrammar.specs.Parts.{tail_text, strike_tail};
-ghost use Rattle.prooftext.specs.Rows.{rows};
+ghost use Rattle.prooftext.specs.Lent.{held, SameRows};
 ghost use Rattle.prooftext.specs.Parts.{NoFront, HasFront, NoNumbers, HasNumbers, NoBody, HasBody};
 ghost use Rattle.prooftext.specs.Items.{NoLine, HasLine};
 
 use crate::item::Item;
 use crate::lists::read_list;
+use crate::rows::Rows;
 use proofwords::{read_number, skip};
 
 /// Reads the number that begins a line, and its space.
@@ -36,40 +37,31 @@ fn read_strike<'t>(text: &'t [u8], row: &mut [u32]) -> Option<(usize, &'t [u8])>
 }
 
 /// Reads what stands behind the number of a clause: its literals and its hints.
-fn read_clause<'t>(
-    text: &'t [u8],
-    number: u32,
-    literals: &mut [i32],
-    numbers: &mut [u32],
-) -> Option<(Item, &'t [u8])>
-    ensures { MatchOption result (NoBody text.now)
-        (λ r. HasBody number text.now (rows literals.old numbers.old)
-        (rows literals.new numbers.new) r.0 r.1.now) }
+fn read_clause<'t>(text: &'t [u8], number: u32, rows: &mut Rows<'_>) -> Option<(Item, &'t [u8])>
+    ensures same { SameRows rows.old rows.new }
+    ensures read { MatchOption result (NoBody text.now)
+        (λ r. HasBody number text.now (held rows.old) (held rows.new) r.0 r.1.now) }
 {
-    let (count, rest) = read_list(text, literals)?;
-    let (hints, rest) = read_tail(skip(rest, b' ')?, numbers)?;
+    let (literals, rest) = read_list(text, rows.literals)?;
+    let (hints, rest) = read_tail(skip(rest, b' ')?, rows.numbers)?;
     let item = Item::Line {
         number,
-        literals: count,
+        literals,
         hints,
     };
     Some((item, rest))
 }
 
 /// Reads a proof line into the rows: what it is, and the text behind it. What a row has no room for is only counted.
-pub(crate) fn read_line<'t>(
-    text: &'t [u8],
-    literals: &mut [i32],
-    numbers: &mut [u32],
-) -> Option<(Item, &'t [u8])>
-    ensures { MatchOption result (NoLine text.now)
-        (λ r. HasLine text.now (rows literals.old numbers.old)
-        (rows literals.new numbers.new) r.0 r.1.now) }
+pub(crate) fn read_line<'t>(text: &'t [u8], rows: &mut Rows<'_>) -> Option<(Item, &'t [u8])>
+    ensures same { SameRows rows.old rows.new }
+    ensures read { MatchOption result (NoLine text.now)
+        (λ r. HasLine text.now (held rows.old) (held rows.new) r.0 r.1.now) }
 {
     let (number, rest) = read_front(text)?;
     let Some(tail) = skip(rest, b'd') else {
-        return read_clause(rest, number, literals, numbers);
+        return read_clause(rest, number, rows);
     };
-    let (count, rest) = read_strike(tail, numbers)?;
+    let (count, rest) = read_strike(tail, rows.numbers)?;
     Some((Item::Strike { count }, rest))
 }

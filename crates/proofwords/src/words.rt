@@ -18,7 +18,11 @@ pub fn stands(text: &[u8], at: usize, byte: u8) -> bool
 pub fn skip(text: &[u8], byte: u8) -> Option<&[u8]>
     ensures { MatchOption result (NoByte byte text.now) (λ rest. HasByte byte text.now rest.now) }
 {
-    text.strip_prefix(&[byte])
+    // A pattern: `strip_prefix` compares slices, and takes longer.
+    match text {
+        [first, rest @ ..] if *first == byte => Some(rest),
+        _ => None,
+    }
 }
 
 /// The number that the text begins with, and the text behind it.
@@ -26,20 +30,22 @@ pub fn read_number(text: &[u8]) -> Option<(u32, &[u8])>
     ensures { MatchOption result (NoWord text_of SmallNumber text.now)
         (λ r. HasWord text_of SmallNumber text.now r.0 r.1.now) }
 {
+    // In one pass: the digits are counted as their value is worked out.
     let mut value = 0;
-    let mut rest = text;
-    'digits: while let [digit, more @ ..] = rest
-        && digit.is_ascii_digit()
-    {
-        value = value * 10 + u64::from(*digit - b'0');
+    let mut length = 0;
+    'digits: for byte in text {
+        if !byte.is_ascii_digit() {
+            break;
+        }
+        value = value * 10 + u64::from(*byte - b'0');
         if value > LARGEST {
             return None;
         }
-        rest = more;
+        length += 1;
     }
-    match &text[..text.len() - rest.len()] {
-        [] | [b'0', _, ..] => None,
-        _ => Some((value as u32, rest)),
+    match text.split_at(length) {
+        ([] | [b'0', _, ..], _) => None,
+        (_, rest) => Some((value as u32, rest)),
     }
 }
 
