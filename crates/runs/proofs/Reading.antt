@@ -1,7 +1,7 @@
 -- Bytes as rows of inputs.
 use Rattle.std.proofs.Common.{◌≡◌, ℕ, ◌+◌, ◌*◌, ◌<◌, ◌≤◌, Bool, false, List, [], ◌∷◌, ◌++◌, map, length, get_or, take, drop, sym, refl, ap, ◌∙◌, append_assoc, arith}
 use Rattle.std.specs.List.{flat_map, AllByRecursion as AllOf}
-use Rattle.std.proofs.lemmas.List.{take_more, take_all, take_at, take-map, drop_at, drop-map, append-nil, length-append, length-map, map-append, get_or-map, flat_map_more, nil_from_length}
+use Rattle.std.proofs.lemmas.List.{take_more, take_at, take-map, drop_at, drop-map, append-nil, length-append, length-map, map-append, get_or-map, flat_map_more, nil_from_length}
 use Rattle.refusals.specs.declared.Failure.{Failure}
 use Rattle.refusals.specs.declared.Failure.TheVariants.{Refused, Memory}
 use Rattle.values.specs.declared.single.Value.{Value}
@@ -20,9 +20,6 @@ values_turn bytes i values after v l h r e =
       map-append byte bits (b ∷ []) ∙ ap (λ xs. xs ++ byte b ∷ []) h.1 ∙ ap (λ x. take i bytes ++ x ∷ []) r.1 ∙ sym (take_more bytes i 0 l),
       e ∙ ap (λ xs. xs ++ v ∷ []) h.2 ∙ ap (λ x. map bit bits ++ x ∷ []) r.2 ∙ sym (map-append bit bits (b ∷ [])),
     )
-
-pub values_end : (bytes : List ℕ) (i : ℕ) (values : List Value) → length bytes ≤ i → ValuesOf (take i bytes) values → ValuesOf bytes values
-values_end bytes i values l h = (h.0, h.1 ∙ take_all i bytes l, h.2)
 
 -- what one reading was refused for is a reason to refuse another
 pub not_read_since : (P Q : Type 0) (e : Failure) → (P → Q) → NotRead P e → NotRead Q e
@@ -54,9 +51,6 @@ pub record RowsSoFar (gs : List Gate) (bytes rest : List ℕ) (values : List (Li
   pub parts : flat_map (map byte) rows ++ rest ≡ bytes
   pub held : values ≡ map (map bit) rows
   pub count : length rows ≡ k
-
-pub no_rows_yet : (gs : List Gate) (bytes : List ℕ) → RowsSoFar gs bytes bytes [] 0
-no_rows_yet gs bytes = record { rows = []; run = tt; parts = refl; held = refl; count = refl }
 
 all_more : {X : Type 0} (P : X → Type 0) (xs : List X) (x : X) → AllOf P xs → P x → AllOf P (xs ++ x ∷ [])
 all_more P [] x h p = (p, tt)

@@ -1,7 +1,7 @@
 use Rattle.std.proofs.Common.{[], ◌∷◌, vec_items, refl}
 use Rattle.std.proofs.lemmas.Slice.{pushed}
 use Rattle.std.proofs.lemmas.Result.{err_from_is_err_and}
-use Rattle.runs.proofs.Reading.{values_turn, values_end, no_bits}
+use Rattle.runs.proofs.Reading.{values_turn, no_bits}
 use Rattle.runs.proofs.rows.read_values.Goals as goal
 
 pub returns-in_err-value : goal.returns-in_err-value
@@ -15,6 +15,3 @@ loop-byte-preserved c =
     let values = vec_items c.loop-byte.values in
     values_turn c.args.bytes.now c.loop-byte.byte-index values _ c.in_ok-value.value c.loop-byte-test.true c.loop-byte.invariant c.in_ok-value.ensures
     (pushed (c.in_ok-value.value ∷ []) (refl {a = values}) c.in_ok-push.was c.push.ensures.items)
-
-pub returns : goal.returns
-returns c = values_end c.args.bytes.now c.loop-byte.byte-index (vec_items c.loop-byte.values) c.loop-byte-test.false c.loop-byte.invariant
