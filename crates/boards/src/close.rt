@@ -1,11 +1,13 @@
 ghost use Rattle.std.specs.Prelude.{◌≡◌, Some, None, MatchResult};
+ghost use Rattle.std.specs.Result.{result_err};
+ghost use Rattle.refusals.specs.declared.Failure.TheVariants.{Refused};
 ghost use Rattle.gates.specs.Gates.{named};
 ghost use Rattle.boards.specs.Sheets.{drawn, sheet, sheet_of, closing};
 
 use crate::board::Board;
 use crate::drawing::Drawing;
 use gates::Gate;
-use refusals::Refusal;
+use refusals::{Failure, Refusal};
 
 /// The largest depth that a board may have.
 pub const MOST_DEPTH: u8 = 8;
@@ -17,39 +19,51 @@ pub struct Unclosed {
     pub refusal: Refusal,
 }
 
+impl From<Unclosed> for Refusal {
+    ghost from_gives = { λ u r. r ≡ u.refusal };
+
+    fn from(unclosed: Unclosed) -> Refusal {
+        unclosed.refusal
+    }
+}
+
+impl From<Unclosed> for Failure {
+    ghost from_gives = { λ u r. r ≡ Refused u.refusal };
+
+    fn from(unclosed: Unclosed) -> Failure {
+        Failure::Refused(unclosed.refusal)
+    }
+}
+
 fn all_name_below(gates: &[Gate], wires: usize) -> bool
     ensures { result ≡ named wires gates.now }
 {
-    for gate in gates {
-        if !gate.names_below(wires) {
-            return false;
-        }
-    }
-    true
+    gates.iter().all(|gate| gate.names_below(wires))
 }
 
 impl Drawing {
-    /// Why the drawing cannot be closed with this property wire and depth, if it cannot.
-    pub fn why_open(&self, property: u8, depth: u8) -> Option<Refusal>
-        ensures { result ≡ closing (sheet_of (drawn self.now) property depth) }
+    /// Whether the drawing can be closed with this property wire and depth, and if not, why.
+    pub fn check_close(&self, property: u8, depth: u8) -> Result<(), Refusal>
+        ensures { result_err result ≡ closing (sheet_of (drawn self.now) property depth) }
     {
-        if depth < 1 || depth > MOST_DEPTH {
-            return Some(Refusal::Depth);
+        if !(1..=MOST_DEPTH).contains(&depth) {
+            return Err(Refusal::Depth);
         }
         let wires = self.gates.len();
         if property as usize >= wires || !all_name_below(&self.gates, wires) {
-            return Some(Refusal::Wire);
+            return Err(Refusal::Wire);
         }
-        None
+        Ok(())
     }
 
     /// Closes the drawing into a board, or hands it back.
+    // The property wire and the depth are given apart: whoever closes has two numbers, and only a file has them together.
     pub fn close(self, property: u8, depth: u8) -> Result<Board, Unclosed>
         ensures { MatchResult result
             (λ b. (closing (sheet_of (drawn self) property depth) ≡ None) × (sheet b ≡ sheet_of (drawn self) property depth))
             (λ u. (closing (sheet_of (drawn self) property depth) ≡ Some u.refusal) × (drawn u.drawing ≡ drawn self)) }
     {
-        if let Some(refusal) = self.why_open(property, depth) {
+        if let Err(refusal) = self.check_close(property, depth) {
             return Err(Unclosed {
                 drawing: self,
                 refusal,

@@ -1,7 +1,9 @@
-ghost use Rattle.std.specs.Prelude.{◌≡◌, [], ◌∷◌, ◌++◌, length, IfOk, if◌then◌else◌, nat_lt};
-ghost use Rattle.boards.specs.Sheets.{drawn, adding, gates_after};
+ghost use Rattle.std.specs.Prelude.{◌≡◌, [], ◌∷◌, ◌++◌, length, IfOk};
+ghost use Rattle.gates.specs.Gates.{is_register, rank};
+ghost use Rattle.boards.specs.Sheets.{drawn, add_gate, adding, gates_after};
 
 use crate::drawing::Drawing;
+use crate::shape::count_registers;
 use gates::Gate;
 use gates::records::read_record;
 use refusals::Refusal;
@@ -26,29 +28,32 @@ impl Drawing {
         self.gates.len()
     }
 
+    /// How many registers there are so far.
+    pub fn registers(&self) -> usize
+        ensures { result ≡ rank is_register (drawn self.now) (length (drawn self.now)) }
+    {
+        count_registers(&self.gates)
+    }
+
     /// Adds the wire of one record, given by its bytes.
     pub fn add(&mut self, bytes: &[u8]) -> Result<(), Refusal>
         ensures answer { result ≡ adding (drawn self.old) bytes.now }
         ensures after { drawn self.new ≡ gates_after (drawn self.old) bytes.now }
     {
         let gate = read_record(bytes).ok_or(Refusal::Record)?;
-        if self.add_gate(gate) {
-            Ok(())
-        } else {
-            Err(Refusal::Full)
-        }
+        self.add_gate(gate)
     }
 
-    /// Adds a wire, and answers whether there was room for it.
-    pub fn add_gate(&mut self, gate: Gate) -> bool
-        ensures answer { result ≡ nat_lt (length (drawn self.old)) 256 }
-        ensures after { drawn self.new ≡ (if result then drawn self.old ++ gate ∷ [] else drawn self.old) }
+    /// Adds a wire, if there is room for it.
+    pub fn add_gate(&mut self, gate: Gate) -> Result<(), Refusal>
+        ensures answer { result ≡ add_gate (drawn self.old) (Some gate) (λ g. Ok tt) Err }
+        ensures after { drawn self.new ≡ add_gate (drawn self.old) (Some gate) (λ g. drawn self.old ++ g ∷ []) (λ e. drawn self.old) }
     {
         if self.gates.len() >= MOST_WIRES {
-            return false;
+            return Err(Refusal::Full);
         }
         self.gates.push_reserved(gate);
-        true
+        Ok(())
     }
 
     /// Takes all wires away.

@@ -1,9 +1,8 @@
 ghost use Rattle.std.specs.Prelude.{◌≡◌, length};
 ghost use Rattle.gates.specs.Gates.{is_input, is_register, rank};
-ghost use Rattle.boards.specs.Sheets.{drawn, sheet};
+ghost use Rattle.boards.specs.Sheets.{sheet};
 
 use crate::board::Board;
-use crate::drawing::Drawing;
 use gates::Gate;
 
 impl Board {
@@ -37,40 +36,19 @@ impl Board {
     pub fn inputs(&self) -> usize
         ensures { result ≡ rank is_input (sheet self.now).gates (length (sheet self.now).gates) }
     {
-        let mut inputs = 0;
-        for gate in self.gates.as_slice() {
-            if gate.is_input() {
-                inputs += 1;
-            }
-        }
-        inputs
+        self.gates.iter().filter(|gate| gate.is_input()).count()
     }
 
     /// How many registers there are.
     pub fn registers(&self) -> usize
         ensures { result ≡ rank is_register (sheet self.now).gates (length (sheet self.now).gates) }
     {
-        count_registers(self.gates.as_slice())
+        count_registers(&self.gates)
     }
 }
 
-impl Drawing {
-    /// How many registers there are so far.
-    pub fn registers(&self) -> usize
-        ensures { result ≡ rank is_register (drawn self.now) (length (drawn self.now)) }
-    {
-        count_registers(self.gates.as_slice())
-    }
-}
-
-fn count_registers(gates: &[Gate]) -> usize
+pub(crate) fn count_registers(gates: &[Gate]) -> usize
     ensures { result ≡ rank is_register gates.now (length gates.now) }
 {
-    let mut registers = 0;
-    for gate in gates {
-        if gate.is_register() {
-            registers += 1;
-        }
-    }
-    registers
+    gates.iter().filter(|gate| gate.is_register()).count()
 }

@@ -19,26 +19,21 @@ mod tests {
     ];
 
     fn board_of(heap: Global, file: &[u8]) -> Result<Board, Failure> {
-        match read_file(Drawing::new(heap)?, file) {
-            Ok(board) => Ok(board),
-            Err(unclosed) => Err(Failure::Refused(unclosed.refusal)),
-        }
+        Ok(read_file(Drawing::new(heap)?, file)?)
     }
 
     // Why a file is not read, if it is not.
     fn why_not(heap: Global, file: &[u8]) -> Result<Option<Refusal>, Failure> {
-        match read_file(Drawing::new(heap)?, file) {
-            Ok(_) => Ok(None),
-            Err(unclosed) => Ok(Some(unclosed.refusal)),
-        }
+        Ok(
+            read_file(Drawing::new(heap)?, file)
+                .err()
+                .map(Refusal::from),
+        )
     }
 
     // Records of one kind without wires, and then an ending.
     fn repeated(heap: Global, count: usize, property: u8, depth: u8) -> Result<Vec<u8>, Failure> {
-        let mut file = Vec::new(heap);
-        for _ in 0..count {
-            file.push(2u8)?;
-        }
+        let mut file = vec![in heap; 2u8; count]?;
         file.extend_from_slice(&[15, property, depth])?;
         Ok(file)
     }
@@ -74,10 +69,10 @@ mod tests {
         assert_eq!(rt; drawing.add(&[10]), Err(Refusal::Record));
         assert_eq!(rt; drawing.add(&[2]), Err(Refusal::Full));
         assert!(rt; drawing.wires() == 256);
-        assert_eq!(rt; drawing.why_open(255, 0), Some(Refusal::Depth));
-        assert_eq!(rt; drawing.why_open(255, 9), Some(Refusal::Depth));
-        assert_eq!(rt; drawing.why_open(255, 1), None);
-        assert_eq!(rt; drawing.why_open(255, 8), None);
+        assert_eq!(rt; drawing.check_close(255, 0), Err(Refusal::Depth));
+        assert_eq!(rt; drawing.check_close(255, 9), Err(Refusal::Depth));
+        assert_eq!(rt; drawing.check_close(255, 1), Ok(()));
+        assert_eq!(rt; drawing.check_close(255, 8), Ok(()));
         Ok(())
     }
 
@@ -118,14 +113,12 @@ mod tests {
     fn a_refused_drawing_is_handed_back(rt: HostRuntime) -> Result<(), Fail> {
         let mut drawing = Drawing::new(rt.alloc())?;
         drawing.add(&[2])?;
-        match read_file(drawing, &RING) {
-            Ok(_) => Err(Fail::new("read over a wire")),
-            Err(unclosed) => {
-                assert_eq!(rt; unclosed.refusal, Refusal::Stage);
-                assert!(rt; unclosed.drawing.wires() == 1);
-                Ok(())
-            }
-        }
+        let Err(unclosed) = read_file(drawing, &RING) else {
+            return Err(Fail::new("read over a wire"));
+        };
+        assert_eq!(rt; unclosed.refusal, Refusal::Stage);
+        assert!(rt; unclosed.drawing.wires() == 1);
+        Ok(())
     }
 
     #[test]

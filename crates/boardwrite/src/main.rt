@@ -1,10 +1,9 @@
 #![tactic(auto)]
 
 // Reads board.bin from the folder it is started in, and writes the board's two formulas into it, as base.cnf and step.cnf.
-use boards::{Board, Drawing};
+use boards::Board;
 use dimacs::{dimacs_text, tell_formula};
-use gatefiles::read_file;
-use programs::{read_or_empty, refuse};
+use programs::{read_board, read_or_empty};
 use runs::text::tell_board;
 use sources::{Formula, FormulaKind};
 use std::fs;
@@ -18,15 +17,18 @@ fn draft(rt: &HostRuntime, name: &str, text: &[u8]) -> anyhow::Result<()> {
     Ok(())
 }
 
-fn write_formulas(rt: &HostRuntime, board: Board) -> anyhow::Result<()> {
+// The formula's text, and the line that tells of it.
+fn text_and_line(rt: &HostRuntime, formula: &mut Formula) -> anyhow::Result<(Vec<u8>, String)> {
     let heap = rt.alloc();
-    let first = tell_board(heap, &board)?;
+    Ok((dimacs_text(heap, formula)?, tell_formula(heap, formula)?))
+}
+
+fn write_formulas(rt: &HostRuntime, board: Board) -> anyhow::Result<()> {
+    let first = tell_board(rt.alloc(), &board)?;
     let mut base = Formula::new(board, FormulaKind::Base);
-    let base_text = dimacs_text(heap, &mut base)?;
-    let base_line = tell_formula(heap, &base)?;
+    let (base_text, base_line) = text_and_line(rt, &mut base)?;
     let mut step = Formula::new(base.into_board(), FormulaKind::Step);
-    let step_text = dimacs_text(heap, &mut step)?;
-    let step_line = tell_formula(heap, &step)?;
+    let (step_text, step_line) = text_and_line(rt, &mut step)?;
     // Both files are written under other names first, so that neither is ever half-written.
     draft(rt, "base.cnf.new", base_text.as_slice())?;
     draft(rt, "step.cnf.new", step_text.as_slice())?;
@@ -40,10 +42,8 @@ fn write_formulas(rt: &HostRuntime, board: Board) -> anyhow::Result<()> {
 
 fn run(rt: &HostRuntime) -> anyhow::Result<()> {
     let file = read_or_empty(rt, "board.bin")?;
-    match read_file(Drawing::new(rt.alloc())?, file.as_slice()) {
-        Ok(board) => write_formulas(rt, board),
-        Err(unclosed) => refuse(rt, unclosed.refusal),
-    }
+    let board = read_board(rt, file.as_slice())?;
+    write_formulas(rt, board)
 }
 
 fn main(rt: HostRuntime) -> anyhow::Result<()> {

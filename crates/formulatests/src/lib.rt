@@ -17,10 +17,7 @@ mod tests {
     const CONSTANT: [u8; 4] = [2, 15, 0, 1];
 
     fn formula_of(heap: Global, file: &[u8], kind: FormulaKind) -> Result<Formula, Failure> {
-        match read_file(Drawing::new(heap)?, file) {
-            Ok(board) => Ok(Formula::new(board, kind)),
-            Err(unclosed) => Err(Failure::Refused(unclosed.refusal)),
-        }
+        Ok(Formula::new(read_file(Drawing::new(heap)?, file)?, kind))
     }
 
     // Whether the board's formulas have these texts.
@@ -89,8 +86,7 @@ mod tests {
         let heap = rt.alloc();
         let mut file = Vec::new(heap);
         for w in 0..=255u8 {
-            file.push(9u8)?;
-            file.push(w)?;
+            file.extend_from_slice(&[9, w])?;
         }
         file.extend_from_slice(&[15, 0, 8])?;
         let mut base = formula_of(heap, file.as_slice(), FormulaKind::Base)?;

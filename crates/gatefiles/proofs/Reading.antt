@@ -1,9 +1,8 @@
 -- A gate file is read record by record.
-use Rattle.std.proofs.Common.{◌≡◌, ℕ, ◌+◌, ◌<◌, ◌≤◌, min, Bool, true, false, cond, not, ltb, ◌≢◌, ◌⊎◌, List, [], ◌∷◌, ◌++◌, length, get_or, take, Some, None, Ok, Err, Option, Result, sym, refl, ap, ◌∙◌, inl, inr, arith, MatchResult}
+use Rattle.std.proofs.Common.{◌≡◌, ℕ, ◌+◌, ◌<◌, ◌≤◌, min, Bool, true, false, cond, ltb, ◌≢◌, ◌⊎◌, List, [], ◌∷◌, ◌++◌, length, get_or, take, Some, None, Ok, Err, Option, Result, sym, refl, ap, ◌∙◌, inl, inr, ⊎_elim, arith, MatchResult}
 use Rattle.std.specs.List.{flat_map}
-use Rattle.std.proofs.lemmas.List.{append_assoc, append-nil, take_all, take-append-le, length-append, length-take, length_push, flat_map_more}
-use Rattle.std.proofs.lemmas.Bool.{ltb-true, ltb-false, lt-ltb, le-ltb, le-leb, lt-leb, cases_lt}
-use Rattle.std.proofs.lemmas.Bool.Decides.{nat_tests}
+use Rattle.std.proofs.lemmas.List.{append_assoc, append-nil, take_all, take-append-le, length-take, length_push, flat_map_more}
+use Rattle.std.proofs.lemmas.Bool.{lt-ltb, le-ltb, le-leb, lt-leb, cases_lt}
 use Rattle.gates.specs.declared.gate.Gate.{Gate}
 use Rattle.refusals.specs.declared.Refusal.TheVariants as refusal
 use Rattle.gates.specs.Records.{record_of, first_record}
@@ -11,7 +10,7 @@ use Rattle.refusals.specs.declared.Refusal.{Refusal}
 use Rattle.boards.specs.declared.board.Board.{Board}
 use Rattle.boards.specs.declared.close.Unclosed.{Unclosed}
 use Rattle.boards.specs.Sheets.{Sheet, sheet, sheet_of, drawn as drawn_of, closing}
-use Rattle.gatefiles.specs.Files.{ending, file_of, file_closing, Misread, Read, Reread}
+use Rattle.gatefiles.specs.Files.{ending, file_of, file_closing, Misread, Unread, Read, Reread}
 use Rattle.gates.proofs.FirstRecord.{first_of}
 
 pub three : (bs : List ℕ) → length bs ≡ 3 → get_or bs 0 0 ≡ 15 → bs ≡ ending (get_or bs 1 0) (get_or bs 2 0)
@@ -20,10 +19,6 @@ three (a ∷ []) e h = absurd (omega arith)
 three (a ∷ b ∷ []) e h = absurd (omega arith)
 three (a ∷ b ∷ c ∷ []) e h = ap (λ x. x ∷ b ∷ c ∷ []) h
 three (a ∷ b ∷ c ∷ x ∷ xs) e h = absurd (omega arith)
-
--- no record begins with the kind of the ending
-pub ending_no_record : (p d : ℕ) → first_record (ending p d) ≡ None
-ending_no_record p d = refl
 
 -- What is left of a file behind some records is the file of what is left of its sheet.
 pub file_cut : (gs : List Gate) (rest : List ℕ) (hs : List Gate) (p d : ℕ) → flat_map record_of gs ++ rest ≡ file_of (sheet_of hs p d)
@@ -78,16 +73,17 @@ no_file gs rest file e not_end no_record s f = go (file_cut gs rest s.gates s.pr
     go : ((ts : List Gate) × (rest ≡ file_of (sheet_of ts s.property s.depth)) × (s.gates ≡ gs ++ ts)) → ⊥
     go x = at x.0 x.1
 
-no_room : (room : Bool) (d n m : ℕ) → room ≡ ltb d 256 → d ≡ min 256 n → m ≡ n + 1 → not room ≡ ltb 256 m
-no_room room d n m r e f = grind (arith, nat_tests)
+-- what the last of n wires is answered by a drawing that takes the first 256
+abbrev pub room_at : ℕ → Result (Unit {0}) Refusal
+room_at n = cond (ltb 256 n) (Err refusal.Full) (Ok tt)
 
 -- gs are the records read so far, of which those drawn are the first 256.
 module _ (gs : List Gate) (file rest : List ℕ) (drawn : List Gate) (is : file ≡ flat_map record_of gs ++ rest) (kept : drawn ≡ take 256 gs) where
   -- one more record is read
-  pub read_turn : (g : Gate) (next : List ℕ) (room : Bool) (after : List Gate) → rest ≡ record_of g ++ next → room ≡ ltb (length drawn) 256
-      → after ≡ cond room (drawn ++ g ∷ []) drawn
-      → (hs : List Gate) × (file ≡ flat_map record_of hs ++ next) × (after ≡ take 256 hs) × (not room ≡ ltb 256 (length hs))
-  read_turn g next room after e r a = (gs ++ g ∷ [], whole, go (cases_lt (length gs) 256), room_is)
+  pub read_turn : (g : Gate) (next : List ℕ) (room : Result (Unit {0}) Refusal) (after : List Gate) → rest ≡ record_of g ++ next
+      → room ≡ cond (ltb (length drawn) 256) (Ok tt) (Err refusal.Full) → after ≡ cond (ltb (length drawn) 256) (drawn ++ g ∷ []) drawn
+      → (hs : List Gate) × (file ≡ flat_map record_of hs ++ next) × (after ≡ take 256 hs) × (room ≡ room_at (length hs))
+  read_turn g next room after e r a = let both = go (cases_lt (length gs) 256) in (gs ++ g ∷ [], whole, both.0, both.1)
     where
       long : length (gs ++ g ∷ []) ≡ length gs + 1
       long = length_push gs g
@@ -100,33 +96,45 @@ module _ (gs : List Gate) (file rest : List ℕ) (drawn : List Gate) (is : file 
           is ∙ ap (λ xs. flat_map record_of gs ++ xs) e ∙ sym (append_assoc (flat_map record_of gs) (record_of g) next)
           ∙ ap (λ xs. xs ++ next) (flat_map_more record_of [] gs g)
 
-      room_is : not room ≡ ltb 256 (length (gs ++ g ∷ []))
-      room_is = no_room room (length drawn) (length gs) (length (gs ++ g ∷ [])) r size long
+      room_is : (before now : Bool) → ltb (length drawn) 256 ≡ before → ltb 256 (length (gs ++ g ∷ [])) ≡ now
+          → ◌≡◌ {A = Result (Unit {0}) Refusal} (cond before (Ok tt) (Err refusal.Full)) (cond now (Err refusal.Full) (Ok tt)) → room ≡ room_at (length (gs ++ g ∷ []))
+      room_is before now b n h = r ∙ ap (λ x. cond x (Ok tt) (Err refusal.Full)) b ∙ h ∙ sym (ap (λ x. cond x (Err refusal.Full) (Ok tt)) n)
 
-      go : ((length gs < 256) ⊎ (256 ≤ length gs)) → after ≡ take 256 (gs ++ g ∷ [])
+      go : ((length gs < 256) ⊎ (256 ≤ length gs)) → (after ≡ take 256 (gs ++ g ∷ [])) × (room ≡ room_at (length (gs ++ g ∷ [])))
       go (inl l) =
           let all = take_all 256 gs (omega arith) in
           let more = take_all 256 (gs ++ g ∷ []) (omega (arith, long)) in
-          let yes : room ≡ true = r ∙ lt-ltb (length drawn) 256 (omega (arith, size)) in
-          a ∙ ap (λ b. cond b (drawn ++ g ∷ []) drawn) yes ∙ ap (λ xs. xs ++ g ∷ []) (kept ∙ all) ∙ sym more
+          let yes : ltb (length drawn) 256 ≡ true = lt-ltb (length drawn) 256 (omega (arith, size)) in (
+            a ∙ ap (λ b. cond b (drawn ++ g ∷ []) drawn) yes ∙ ap (λ xs. xs ++ g ∷ []) (kept ∙ all) ∙ sym more,
+            room_is true false yes (le-ltb 256 (length (gs ++ g ∷ [])) (omega (arith, long))) refl,
+          )
       go (inr l) =
-          let no : room ≡ false = r ∙ le-ltb (length drawn) 256 (omega (arith, size)) in
-          a ∙ ap (λ b. cond b (drawn ++ g ∷ []) drawn) no ∙ kept ∙ sym (take-append-le 256 gs (g ∷ []) l)
+          let no : ltb (length drawn) 256 ≡ false = le-ltb (length drawn) 256 (omega (arith, size)) in (
+            a ∙ ap (λ b. cond b (drawn ++ g ∷ []) drawn) no ∙ kept ∙ sym (take-append-le 256 gs (g ∷ []) l),
+            room_is false true no (lt-ltb 256 (length (gs ++ g ∷ [])) (omega (arith, long))) refl,
+          )
 
   -- the ending is read
-  pub read_full : (p d : ℕ) → rest ≡ ending p d → true ≡ ltb 256 (length gs) → Misread file refusal.Full
-  read_full p d e t = inr (sheet_of gs p d, is ∙ ap (λ xs. flat_map record_of gs ++ xs) e, ap (λ b. cond b (closing (sheet_of gs p d)) (Some refusal.Full)) (lt-leb (length gs) 256 (ltb-true 256 (length gs) (sym t))))
+  pub read_full : (p d : ℕ) → rest ≡ ending p d → (e : Refusal) → Err e ≡ room_at (length gs) → Misread file e
+  read_full p d end e r = ⊎_elim
+      (λ (l : length gs ≤ 256). let bad : ◌≡◌ {A = Result (Unit {0}) Refusal} (Err e) (Ok tt) = r ∙ ap (λ b. cond b (Err refusal.Full) (Ok tt)) (le-ltb 256 (length gs) l) in absurd (cc))
+      (λ (l : 256 < length gs).
+      let full : ◌≡◌ {A = Result (Unit {0}) Refusal} (Err e) (Err refusal.Full) = r ∙ ap (λ b. cond b (Err refusal.Full) (Ok tt)) (lt-ltb 256 (length gs) l) in
+      let same : e ≡ refusal.Full = cc in
+      inr (
+        sheet_of gs p d,
+        is ∙ ap (λ xs. flat_map record_of gs ++ xs) end,
+        ap (λ b. cond b (closing (sheet_of gs p d)) (Some refusal.Full)) (lt-leb (length gs) 256 l) ∙ ap (λ x. Some x) (sym same),
+      ))
+      (elim (cases_lt 256 (length gs)) [ inl l ↦ inr l | inr l ↦ inl l ])
 
-  pub read_end : (p d : ℕ) → rest ≡ ending p d → false ≡ ltb 256 (length gs) → file ≡ file_of (sheet_of drawn p d)
-  read_end p d e t =
-      let all = kept ∙ take_all 256 gs (ltb-false 256 (length gs) (sym t)) in
-      is ∙ ap (λ xs. flat_map record_of gs ++ xs) e ∙ ap (λ xs. file_of (sheet_of xs p d)) (sym all)
-
-pub shorter : (rest next : List ℕ) (g : Gate) → rest ≡ record_of g ++ next → length next < length rest
-shorter rest next g e = omega (arith, ap length e, length-append (record_of g) next, some_byte g)
-  where
-    some_byte : (h : Gate) → 0 < length (record_of h)
-    some_byte h = grind arith
+  pub read_end : (p d : ℕ) → rest ≡ ending p d → Ok tt ≡ room_at (length gs) → file ≡ file_of (sheet_of drawn p d)
+  read_end p d e r = ⊎_elim
+      (λ (l : 256 < length gs). let bad : ◌≡◌ {A = Result (Unit {0}) Refusal} (Ok tt) (Err refusal.Full) = r ∙ ap (λ b. cond b (Err refusal.Full) (Ok tt)) (lt-ltb 256 (length gs) l) in absurd (cc))
+      (λ (l : length gs ≤ 256).
+      let all = kept ∙ take_all 256 gs l in
+      is ∙ ap (λ xs. flat_map record_of gs ++ xs) e ∙ ap (λ xs. file_of (sheet_of xs p d)) (sym all))
+      (cases_lt 256 (length gs))
 
 -- Neither a file that is not read nor a refusal leaves room for a good board.
 misread_bad : (bytes : List ℕ) (e : Refusal) → Misread bytes e → (s : Sheet) → bytes ≡ file_of s → file_closing s ≡ None → ⊥
@@ -136,12 +144,18 @@ misread_bad bytes e (inr m) s f n =
     let none : ◌≡◌ {A = Option Refusal} (Some e) None = sym m.2 ∙ ap file_closing same ∙ n in
     grind arith
 
-module _ (gs : List Gate) (bytes : List ℕ) (empty : gs ≡ []) where
-  pub unread : (u : Unclosed) → drawn_of u.drawing ≡ [] → Misread bytes u.refusal → Read gs bytes (Err u) × Reread gs bytes (Err u)
-  unread u d m = ((d ∙ sym empty, inr (empty, m)), λ s e f n. misread_bad bytes u.refusal m s f n)
+-- A sheet of at most 256 gates is closed, or its file is misread.
+pub closed_or_not : (bytes : List ℕ) (s : Sheet) → bytes ≡ file_of s → length s.gates ≤ 256 → (r : Result Board Unclosed)
+    → MatchResult r (λ b. (closing s ≡ None) × (sheet b ≡ s)) (λ u. (closing s ≡ Some u.refusal) × (drawn_of u.drawing ≡ s.gates))
+    → MatchResult r (λ b. bytes ≡ file_of (sheet b)) (λ u. Misread bytes u.refusal)
+closed_or_not bytes s e few (Ok b) h = e ∙ ap file_of (sym h.1)
+closed_or_not bytes s e few (Err u) h = inr (s, e, ap (λ b. cond b (closing s) (Some refusal.Full)) (le-leb (length s.gates) 256 few) ∙ h.0)
 
-  pub read_or_not : (s : Sheet) → bytes ≡ file_of s → length s.gates ≤ 256 → (r : Result Board Unclosed)
-      → MatchResult r (λ b. sheet b ≡ s) (λ u. (closing s ≡ Some u.refusal) × (drawn_of u.drawing ≡ [])) → Read gs bytes r × Reread gs bytes r
-  read_or_not s e few (Ok b) h = ((empty, e ∙ ap file_of (sym h)), λ t f. h ∙ file_injective s t (sym e ∙ f))
-  read_or_not s e few (Err u) h =
-      unread u h.1 (inr (s, e, ap (λ b. cond b (closing s) (Some refusal.Full)) (le-leb (length s.gates) 256 few) ∙ h.0))
+-- A board whose file was read is read again as that board.
+pub reread : (gs : List Gate) (bytes : List ℕ) (r : Result Board Unclosed) → Read gs bytes r → Reread gs bytes r
+reread gs bytes (Ok b) h = λ s e. file_injective (sheet b) s (sym h.1 ∙ e)
+reread gs bytes (Err u) h = go h.1
+  where
+    go : Unread gs bytes u.refusal → Reread gs bytes (Err u)
+    go (inl n) = λ s none e c. n.0 none
+    go (inr m) = λ s none e c. misread_bad bytes u.refusal m.1 s e c

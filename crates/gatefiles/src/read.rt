@@ -1,5 +1,5 @@
-ghost use Rattle.std.specs.Prelude.{◌≡◌, ℕ, ◌≢◌, [], Some, MatchOption, MatchResult};
-ghost use Rattle.boards.specs.Sheets.{drawn, sheet, sheet_of, closing};
+ghost use Rattle.std.specs.Prelude.{◌≡◌, ℕ, ◌≢◌, [], MatchOption, MatchResult};
+ghost use Rattle.boards.specs.Sheets.{drawn, sheet, sheet_of};
 ghost use Rattle.gatefiles.specs.Files.{ending as ending_of, file_of, Misread, Read, Reread};
 
 use crate::write::ENDING;
@@ -26,34 +26,46 @@ fn read_ending(bytes: &[u8]) -> Option<Ending>
     }
 }
 
-/// Draws the wires of a gate file in place of those drawn so far; where the file is refused, no wires are left.
+/// Draws the wires of a gate file in place of those drawn so far.
 fn draw_file(drawing: &mut Drawing, file: &[u8]) -> Result<Ending, Refusal>
     ensures { MatchResult result
         (λ e. file.now ≡ file_of (sheet_of (drawn drawing.new) e.property e.depth))
-        (λ e. (drawn drawing.new ≡ []) × Misread file.now e) }
+        (λ e. Misread file.now e) }
 {
     drawing.clear();
     let mut rest = file;
-    let mut too_many = false;
-    'records: loop {
-        if let Some(ending) = read_ending(rest) {
-            if too_many {
-                drawing.clear();
-                return Err(Refusal::Full);
-            }
-            return Ok(ending);
-        }
-        let Some((gate, next)) = take_record(rest) else {
-            drawing.clear();
-            return Err(Refusal::Record);
-        };
-        too_many = !drawing.add_gate(gate);
+    let mut room = Ok(());
+    'records: while let Some((gate, next)) = take_record(rest) {
+        room = drawing.add_gate(gate);
         rest = next;
+    }
+    // The form is judged before the number of records.
+    let ending = read_ending(rest).ok_or(Refusal::Record)?;
+    room?;
+    Ok(ending)
+}
+
+/// Draws a gate file in place of the wires drawn so far and closes it, or hands the drawing back with what was drawn.
+fn close_file(mut drawing: Drawing, file: &[u8]) -> Result<Board, Unclosed>
+    ensures { MatchResult result (λ b. file.now ≡ file_of (sheet b)) (λ u. Misread file.now u.refusal) }
+{
+    match draw_file(&mut drawing, file) {
+        Ok(ending) => drawing.close(ending.property, ending.depth),
+        Err(refusal) => Err(Unclosed { drawing, refusal }),
     }
 }
 
+/// The refused drawing without its wires.
+fn cleared(mut unclosed: Unclosed) -> Unclosed
+    ensures wires { drawn result.drawing ≡ [] }
+    ensures refusal { result.refusal ≡ unclosed.refusal }
+{
+    unclosed.drawing.clear();
+    unclosed
+}
+
 /// Reads a whole gate file into a drawing that has no wires yet, and closes it; or hands the drawing back.
-pub fn read_file(mut drawing: Drawing, file: &[u8]) -> Result<Board, Unclosed>
+pub fn read_file(drawing: Drawing, file: &[u8]) -> Result<Board, Unclosed>
     ensures read { Read (drawn drawing) file.now result }
     ensures again { Reread (drawn drawing) file.now result }
 {
@@ -63,28 +75,5 @@ pub fn read_file(mut drawing: Drawing, file: &[u8]) -> Result<Board, Unclosed>
             refusal: Refusal::Stage,
         });
     }
-    match draw_file(&mut drawing, file) {
-        Ok(ending) => close_or_clear(drawing, ending.property, ending.depth),
-        Err(refusal) => Err(Unclosed { drawing, refusal }),
-    }
-}
-
-/// Closes the drawing, or hands it back with no wires.
-fn close_or_clear(drawing: Drawing, property: u8, depth: u8) -> Result<Board, Unclosed>
-    ensures { MatchResult result
-        (λ b. sheet b ≡ sheet_of (drawn drawing) property depth)
-        (λ u. (closing (sheet_of (drawn drawing) property depth) ≡ Some u.refusal) × (drawn u.drawing ≡ [])) }
-{
-    match drawing.close(property, depth) {
-        Ok(board) => Ok(board),
-        Err(
-            Unclosed {
-                mut drawing,
-                refusal,
-            },
-        ) => {
-            drawing.clear();
-            Err(Unclosed { drawing, refusal })
-        }
-    }
+    close_file(drawing, file).map_err(cleared)
 }

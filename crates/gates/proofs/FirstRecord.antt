@@ -7,24 +7,6 @@ use Rattle.gates.specs.declared.gate.Gate.{Gate}
 use Rattle.gates.specs.declared.gate.Gate.TheVariants.{Input, Zero, One, Copy, Not, And, Or, Implies, Xor, Register}
 use Rattle.gates.specs.Records.{record_of, arity, gate_of, first_record, alone, gate_in, Recorded}
 
-module _ (k : ℕ) (bs : List ℕ) (kind : ltb k 10 ≡ true) (head : get_or bs 0 0 ≡ k) (long : arity k < length bs) where
-  pub first_at : Some (gate_of k (get_or bs 1 0) (get_or bs 2 0), take (length bs - (1 + arity k)) (drop (1 + arity k) bs)) ≡ first_record bs
-  first_at = ap (λ z. Some (gate_of k (get_or bs 1 0) (get_or bs 2 0), z)) (take_rest bs (1 + arity k)) ∙ sym (go bs head long)
-    where
-      go : (xs : List ℕ) → get_or xs 0 0 ≡ k → arity k < length xs → first_record xs ≡ Some (gate_of k (get_or xs 1 0) (get_or xs 2 0), drop (1 + arity k) xs)
-      go [] e l = absurd (omega arith)
-      go (x ∷ xs) e l = rw (e, kind, lt-ltb (arity k) (length (x ∷ xs)) l)
-
-pub none_at : (bs : List ℕ) → (0 < length bs → 2 < get_or bs 0 0)
-    → (1 < length bs → (get_or bs 0 0 ≢ 3) × (get_or bs 0 0 ≢ 4) × (get_or bs 0 0 ≢ 9))
-    → (2 < length bs → (get_or bs 0 0 ≢ 5) × (get_or bs 0 0 ≢ 6) × (get_or bs 0 0 ≢ 7) × (get_or bs 0 0 ≢ 8))
-    → None ≡ first_record bs
-none_at [] h i j = refl
-none_at (x ∷ xs) h i j = ⊎_elim (λ e. absurd (go (and_parts _ _ e))) (λ e. ap (λ b. cond b (Some (gate_of x (get_or (x ∷ xs) 1 0) (get_or (x ∷ xs) 2 0), drop (1 + arity x) (x ∷ xs))) None) (sym e)) (cases_Bool (ltb x 10 && ltb (arity x) (length (x ∷ xs))))
-  where
-    go : (ltb x 10 ≡ true) × (ltb (arity x) (length (x ∷ xs)) ≡ true) → ⊥
-    go e = grind (arith, nat_tests)
-
 -- The first record of bytes that begin with a record is that record,
 pub first_of : (g : Gate) (t : List ℕ) → first_record (record_of g ++ t) ≡ Some (g, t)
 first_of Input t = grind (arith, nat_tests)

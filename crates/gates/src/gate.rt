@@ -37,18 +37,12 @@ impl Gate {
     pub fn is_input(self) -> bool
         ensures { result ≡ is_input self }
     {
-        match self {
-            Gate::Input => true,
-            _ => false,
-        }
+        matches!(self, Gate::Input)
     }
 
     pub fn is_register(self) -> bool
         ensures { result ≡ is_register self }
     {
-        match self {
-            Gate::Register(_) => true,
-            _ => false,
-        }
+        matches!(self, Gate::Register(_))
     }
 }

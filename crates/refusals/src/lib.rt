@@ -17,35 +17,35 @@ use std::fmt;
 #[derive(Clone, Copy, PartialEq, Eq, Debug)]
 pub enum Refusal {
     /// Not exactly one record, or a gate file of another form.
-    Record,
+    Record = 1,
     /// A depth that is not 1 to 8.
-    Depth,
+    Depth = 2,
     /// The property or a named wire that is not below the number of wires.
-    Wire,
+    Wire = 3,
     /// A literal that is 0 or names no variable.
-    Literal,
+    Literal = 4,
     /// A valuation, or rows of inputs, that are not exactly one byte of 0 or 1 for each variable or input.
-    Valuation,
+    Valuation = 5,
     /// Any other buffer that is shorter than needed.
-    Buffer,
+    Buffer = 6,
     /// A text that does not begin with one proof line.
-    Text,
+    Text = 7,
     /// A call that the stage does not take.
-    Stage,
+    Stage = 11,
     /// A 257th wire.
-    Full,
+    Full = 12,
     /// A line number that is not above the last, or too large.
-    Number,
+    Number = 13,
     /// A hint or a strike that names no clause.
-    Absent,
+    Absent = 14,
     /// A hint that neither conflicts nor forces one literal.
-    Slack,
+    Slack = 15,
     /// Hints that end without a conflict.
-    Loose,
+    Loose = 16,
     /// A line for which the shelf has no room.
-    Space,
+    Space = 17,
     /// A valuation under which some clause has no true literal.
-    Fails,
+    Fails = 18,
 }
 
 impl Refusal {
@@ -53,23 +53,7 @@ impl Refusal {
     pub fn number(self) -> u8
         ensures { result ≡ number_of self }
     {
-        match self {
-            Refusal::Record => 1,
-            Refusal::Depth => 2,
-            Refusal::Wire => 3,
-            Refusal::Literal => 4,
-            Refusal::Valuation => 5,
-            Refusal::Buffer => 6,
-            Refusal::Text => 7,
-            Refusal::Stage => 11,
-            Refusal::Full => 12,
-            Refusal::Number => 13,
-            Refusal::Absent => 14,
-            Refusal::Slack => 15,
-            Refusal::Loose => 16,
-            Refusal::Space => 17,
-            Refusal::Fails => 18,
-        }
+        self as u8
     }
 
     /// What was refused, in words.

@@ -1,10 +1,8 @@
 #![tactic(auto)]
 
 // Compares whole texts of formulas with stored ones, which tools/reference_formulas.py made apart from the code.
-use boards::Drawing;
 use dimacs::{dimacs_text, tell_formula};
-use gatefiles::read_file;
-use programs::refuse;
+use programs::read_board;
 use sources::{Formula, FormulaKind};
 use std::fs;
 
@@ -26,10 +24,7 @@ fn compare(rt: &HostRuntime, formula: &mut Formula, stored: &str) -> anyhow::Res
 fn compare_board(rt: &HostRuntime, name: &str) -> anyhow::Result<()> {
     let heap = rt.alloc();
     let file = fs::read(rt, format!(in heap; "{name}.bin")?)?;
-    let board = match read_file(Drawing::new(heap)?, file.as_slice()) {
-        Ok(board) => board,
-        Err(unclosed) => return refuse(rt, unclosed.refusal),
-    };
+    let board = read_board(rt, file.as_slice())?;
     let mut base = Formula::new(board, FormulaKind::Base);
     compare(rt, &mut base, format!(in heap; "{name}-base.cnf")?.as_str())?;
     let mut step = Formula::new(base.into_board(), FormulaKind::Step);
