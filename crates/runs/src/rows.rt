@@ -49,7 +49,7 @@ pub fn read_rows(heap: Global, board: &Board, bytes: &[u8]) -> Result<Vec<Vec<Va
     let width = board.inputs();
     let count = count_rows(width, board.depth() as usize, bytes.len())?;
     let mut rows = Vec::with_capacity(heap, count)?;
-    // Cut off by length and not as chunks: the rows of a board without inputs have no bytes, and there are some.
+    // By length and not by chunks: a board without inputs has rows of no bytes.
     let mut rest = bytes;
     for _ in 0..count {
         let (row, more) = rest.split_at(width);
