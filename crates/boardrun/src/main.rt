@@ -7,9 +7,8 @@ use runs::text::{tell_board, tell_frame};
 use runs::tracing::trace;
 
 fn show(rt: &HostRuntime, trace: &Trace) -> anyhow::Result<()> {
-    let heap = rt.alloc();
     for (index, frame) in trace.frames.iter().enumerate() {
-        rt.println(tell_frame(heap, index + 1, frame.as_slice())?)?;
+        rt.println(tell_frame(rt.alloc(), index + 1, frame.as_slice())?)?;
     }
     rt.println(trace.verdict)?;
     Ok(())

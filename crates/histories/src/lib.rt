@@ -7,6 +7,7 @@
 ghost use Rattle.histories.specs.Law.{LawStands, RefusalsChangeNothing, CallsGoOn};
 
 /// What a call that is not refused is answered.
+// No Option: a call that shows nothing is accepted all the same.
 #[derive(Clone, Copy, PartialEq, Eq, Debug)]
 pub enum Reply {
     Accepted,

@@ -1,28 +1,31 @@
 -- Bytes as rows of inputs.
-use Rattle.std.proofs.Common.{◌≡◌, ℕ, ◌+◌, ◌*◌, ◌<◌, ◌≤◌, Bool, false, List, [], ◌∷◌, ◌++◌, map, length, get_or, take, drop, sym, refl, ap, ◌∙◌, append_assoc, arith}
+use Rattle.std.proofs.Common.{◌≡◌, ℕ, ◌+◌, ◌*◌, ◌<◌, ◌≤◌, Bool, false, List, [], ◌∷◌, ◌++◌, map, length, get_or, take, drop, sym, refl, ap, ◌∙◌, append_assoc, arith, suc, ◌⊎◌, ⊎_elim, subst, Ok, Err, Result, MatchResult, IfOk, IfErr}
 use Rattle.std.specs.List.{flat_map, AllByRecursion as AllOf}
-use Rattle.std.proofs.lemmas.List.{take_more, take_all, take_at, take-map, drop_at, drop-map, append-nil, length-append, length-map, map-append, get_or-map, flat_map_more, nil_from_length}
+use Rattle.std.proofs.lemmas.List.{take_at, take-map, drop_at, drop-map, append-nil, length-append, length-map, map-append, get_or-map, flat_map_more, nil_from_length}
 use Rattle.refusals.specs.declared.Failure.{Failure}
 use Rattle.refusals.specs.declared.Failure.TheVariants.{Refused, Memory}
 use Rattle.values.specs.declared.single.Value.{Value}
+use Rattle.values.specs.declared.single.Value.TheVariants.{Undefined}
 use Rattle.gates.specs.declared.gate.Gate.{Gate}
 use Rattle.solutions.specs.Runs.{bit, input_count, Run}
 use Rattle.runs.specs.Rows.{byte, Rows}
-use Rattle.runs.specs.Inputs.{NotRead, Bits, ValuesOf, RowsRead, Counts}
+use Rattle.runs.specs.Inputs.{IsRead, IsUnread, NotRead, Bits, ValuesOf, RowsRead, Counts}
 use Rattle.runs.proofs.Cutting.{row_fits, length_joined, map_joined}
 
-pub values_turn : (bytes : List ℕ) (i : ℕ) (values after : List Value) (v : Value) → i < length bytes → ValuesOf (take i bytes) values
-    → (b : Bool) × (byte b ≡ get_or bytes i 0) × (v ≡ bit b) → after ≡ values ++ v ∷ [] → ValuesOf (take (i + 1) bytes) after
-values_turn bytes i values after v l h r e =
-    let bits = h.0 in
-    let b = r.0 in (
-      bits ++ b ∷ [],
-      map-append byte bits (b ∷ []) ∙ ap (λ xs. xs ++ byte b ∷ []) h.1 ∙ ap (λ x. take i bytes ++ x ∷ []) r.1 ∙ sym (take_more bytes i 0 l),
-      e ∙ ap (λ xs. xs ++ v ∷ []) h.2 ∙ ap (λ x. map bit bits ++ x ∷ []) r.2 ∙ sym (map-append bit bits (b ∷ [])),
+-- where each byte is read, they are bits, and the values are theirs
+pub values_read : (bytes : List ℕ) (values : List Value) → length values ≡ length bytes → ((k : ℕ) → k < length bytes → IsRead (get_or bytes k 0) (get_or values k Undefined))
+    → ValuesOf bytes values
+unfolding IsRead
+values_read [] [] size each = ([], refl, refl)
+values_read [] (x ∷ values) size each = let none : ⊥ = omega arith in absurd none
+values_read (n ∷ bytes) [] size each = let none : ⊥ = omega arith in absurd none
+values_read (n ∷ bytes) (x ∷ values) size each =
+    let first = each 0 (omega arith) in
+    let rest = values_read bytes values (omega arith) (λ k l. each (suc k) (omega arith)) in (
+      first.0 ∷ rest.0,
+      ap (λ m. m ∷ map byte rest.0) first.1 ∙ ap (λ ns. n ∷ ns) rest.1,
+      ap (λ y. y ∷ values) first.2 ∙ ap (λ ys. bit first.0 ∷ ys) rest.2,
     )
-
-pub values_end : (bytes : List ℕ) (i : ℕ) (values : List Value) → length bytes ≤ i → ValuesOf (take i bytes) values → ValuesOf bytes values
-values_end bytes i values l h = (h.0, h.1 ∙ take_all i bytes l, h.2)
 
 -- what one reading was refused for is a reason to refuse another
 pub not_read_since : (P Q : Type 0) (e : Failure) → (P → Q) → NotRead P e → NotRead Q e
@@ -34,6 +37,19 @@ pub no_bits : (bytes : List ℕ) (i : ℕ) → i < length bytes → ((b : Bool) 
 no_bits bytes i l never bits e =
     let within : i < length bits = omega (arith, length-map bits byte, ap length e) in
     never (get_or bits i false) (sym (get_or-map byte bits i false 0 within) ∙ ap (λ xs. get_or xs i 0) e)
+
+no_values : (bytes : List ℕ) (e : Failure) → (e ≡ Memory) ⊎ ((k : ℕ) × (k < length bytes) × IsUnread (get_or bytes k 0) e) → NotRead ((bits : List Bool) → Bits bytes bits → ⊥) e
+unfolding IsUnread
+no_values bytes e h =
+    let P = (bits : List Bool) → Bits bytes bits → ⊥ in
+    ⊎_elim (λ m. subst (NotRead P) (sym m) tt) (λ r. subst (NotRead P) (sym r.2.0) (refl, no_bits bytes r.0 r.1 r.2.1)) h
+
+pub values_or_not : {V : Type 0} (v : V → List Value) (bytes : List ℕ) (r : Result V Failure) → IfOk r (λ x. length (v x) ≡ length bytes)
+    → IfOk r (λ x. (k : ℕ) → k < length bytes → IsRead (get_or bytes k 0) (get_or (v x) k Undefined))
+    → IfErr r (λ e. (e ≡ Memory) ⊎ ((k : ℕ) × (k < length bytes) × IsUnread (get_or bytes k 0) e))
+    → MatchResult r (λ x. ValuesOf bytes (v x)) (λ e. NotRead ((bits : List Bool) → Bits bytes bits → ⊥) e)
+values_or_not v bytes (Ok x) long each first = values_read bytes (v x) long each
+values_or_not v bytes (Err e) long each first = no_values bytes e first
 
 -- where a part of the bytes is no bits, the bytes are none
 pub no_bits_part : (bytes before row after : List ℕ) → before ++ (row ++ after) ≡ bytes → ((bits : List Bool) → Bits row bits → ⊥) → (bits : List Bool) → Bits bytes bits → ⊥
@@ -54,9 +70,6 @@ pub record RowsSoFar (gs : List Gate) (bytes rest : List ℕ) (values : List (Li
   pub parts : flat_map (map byte) rows ++ rest ≡ bytes
   pub held : values ≡ map (map bit) rows
   pub count : length rows ≡ k
-
-pub no_rows_yet : (gs : List Gate) (bytes : List ℕ) → RowsSoFar gs bytes bytes [] 0
-no_rows_yet gs bytes = record { rows = []; run = tt; parts = refl; held = refl; count = refl }
 
 all_more : {X : Type 0} (P : X → Type 0) (xs : List X) (x : X) → AllOf P xs → P x → AllOf P (xs ++ x ∷ [])
 all_more P [] x h p = (p, tt)

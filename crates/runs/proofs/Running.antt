@@ -37,9 +37,6 @@ pub record Reached (gs : List Gate) (p : ℕ) (rows : List (List Bool)) (frames 
   pub held : HoldsFrames gs rows frames k
   pub good : (j : ℕ) → j ≤ k → BadAt gs p rows j → ⊥
 
-pub reached_none : (gs : List Gate) (p : ℕ) (rows : List (List Bool)) → Reached gs p rows [] 0
-reached_none gs p rows = record { held = (refl, λ k l. let none : ⊥ = omega arith in absurd none); good = λ j l b. omega (arith, b.0) }
-
 last_at : (frames : List (List Value)) (k : ℕ) → length frames ≡ suc k → last_of frames ≡ Some (get_or frames k [])
 last_at frames k e =
     let same : length frames - 1 ≡ k = omega arith in

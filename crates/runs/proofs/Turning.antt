@@ -1,10 +1,7 @@
 -- One turn of a run: a row of inputs, the frame before, and what is told of the frame.
-use Rattle.std.proofs.Common.{◌≡◌, ℕ, zero, suc, ◌-◌, ◌<◌, Bool, true, false, List, [], ◌∷◌, ◌++◌, map, length, get_or, slice_get, Some, None, Option, Ok, Err, Result, MatchOption, MatchResult, IsSomeAnd, sym, refl, ap, ◌∙◌, subst, arith}
-use Rattle.std.specs.Borrow.{Bor}
+use Rattle.std.proofs.Common.{◌≡◌, ℕ, zero, suc, ◌<◌, Bool, true, false, List, [], ◌∷◌, ◌++◌, map, length, get_or, Option, Ok, Err, Result, MatchResult, sym, refl, ap, ◌∙◌, subst, arith}
 use Rattle.std.specs.List.{AllByRecursion as AllOf}
-use Rattle.std.specs.Option.{option_map}
 use Rattle.std.proofs.lemmas.List.{get_or-map, length-map}
-use Rattle.std.proofs.lemmas.Option.{slice_get-map}
 use Rattle.refusals.specs.declared.Failure.{Failure}
 use Rattle.refusals.specs.declared.Failure.TheVariants.{Memory}
 use Rattle.values.specs.Single.{single, is1}
@@ -52,23 +49,6 @@ all_at : {X : Type 0} (P : X → Type 0) (xs : List X) (i : ℕ) (d : X) → All
 all_at P [] i d h l = let none : ⊥ = omega arith in absurd none
 all_at P (x ∷ xs) zero d h l = h.0
 all_at P (x ∷ xs) (suc i) d h l = all_at P xs i d h.1 (omega arith)
-
-lent_reads : {V : Type 0} (v : V → List Value) (P : Bor V → Bor (List Value) → Type 0) (last : Option (Bor V)) (lent : Option (Bor (List Value)))
-    → MatchOption last (lent ≡ None) (λ x. IsSomeAnd lent (P x)) → ((x : Bor V) (y : Bor (List Value)) → P x y → y.now ≡ v x.now)
-    → option_map (λ x. x.now) lent ≡ option_map v (option_map (λ x. x.now) last)
-lent_reads v P None lent cases reads = ap (option_map (λ x. x.now)) cases
-lent_reads v P (Some x) None cases reads = absurd cases
-lent_reads v P (Some x) (Some y) cases reads = ap Some (reads x y cases)
-
--- the last frame, as it is lent
-pub last_lent : {V : Type 0} (v : V → List Value) (P : Bor V → Bor (List Value) → Type 0) (frames : List V) (last : Option (Bor V)) (lent : Option (Bor (List Value)))
-    → option_map (λ x. x.now) last ≡ slice_get frames (length frames - 1)
-    → MatchOption last (lent ≡ None) (λ x. IsSomeAnd lent (P x))
-    → ((x : Bor V) (y : Bor (List Value)) → P x y → y.now ≡ v x.now)
-    → option_map (λ x. x.now) lent ≡ last_of (map v frames)
-last_lent v P frames last lent is cases reads =
-    let read : option_map (λ x. x.now) lent ≡ option_map v (option_map (λ x. x.now) last) = lent_reads v P last lent cases reads in
-    read ∙ ap (option_map v) is ∙ sym (slice_get-map v frames (length frames - 1)) ∙ ap (λ n. slice_get (map v frames) (n - 1)) (sym (length-map frames v))
 
 -- what was told of the frame as it was lent
 told_at : (T : ℕ → ℕ → (ℕ → Value) → Type 0) (n p q : ℕ) (told frame : List Value) → told ≡ frame → q ≡ p → length frame ≡ n → T (length told) q (reads single told) → T n p (reads single frame)

@@ -1,5 +1,5 @@
 -- Rows of inputs as values, and bytes that are the rows of no run.
-use Rattle.std.specs.Prelude.{◌≡◌, ℕ, ◌*◌, Bool, List, map}
+use Rattle.std.specs.Prelude.{◌≡◌, ◌≢◌, ℕ, ◌*◌, Bool, List, map}
 use Rattle.refusals.specs.declared.Failure.{Failure}
 use Rattle.refusals.specs.declared.Failure.TheVariants.{Refused, Memory}
 use Rattle.refusals.specs.declared.Refusal.TheVariants as refusal
@@ -7,6 +7,14 @@ use Rattle.values.specs.declared.single.Value.{Value}
 use Rattle.gates.specs.declared.gate.Gate.{Gate}
 use Rattle.solutions.specs.Runs.{bit, Run}
 use Rattle.runs.specs.Rows.{byte, Rows}
+
+-- x is the value of the bit that the byte is.
+unfoldable pub IsRead : ℕ → Value → Type 0
+IsRead n x = (b : Bool) × (byte b ≡ n) × (x ≡ bit b)
+
+-- The byte is no bit, and refused as no valuation.
+unfoldable pub IsUnread : ℕ → Failure → Type 0
+IsUnread n e = (e ≡ Refused refusal.Valuation) × ((b : Bool) → byte b ≢ n)
 
 -- Refused as no valuation, since P; or there was no memory.
 abbrev pub NotRead : Type 0 → Failure → Type 0

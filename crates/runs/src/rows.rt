@@ -1,9 +1,8 @@
 ghost use Rattle.std.specs.Prelude.{◌≡◌, ℕ, ◌*◌, Bool, List, map, vec_items, MatchResult, ◌≢◌};
 ghost use Rattle.refusals.specs.declared.Refusal.TheVariants.{Valuation};
 ghost use Rattle.boards.specs.Sheets.{sheet};
-ghost use Rattle.solutions.specs.Runs.{bit};
-ghost use Rattle.runs.specs.Rows.{byte as byte_of, Rows};
-ghost use Rattle.runs.specs.Inputs.{NotRead, Bits, ValuesOf, RowsRead, Counts};
+ghost use Rattle.runs.specs.Rows.{Rows};
+ghost use Rattle.runs.specs.Inputs.{IsRead, IsUnread, NotRead, Bits, ValuesOf, RowsRead, Counts};
 
 use boards::Board;
 use refusals::{Failure, Refusal};
@@ -11,13 +10,13 @@ use std::alloc::Global;
 use values::Value;
 
 /// The value of a byte, which is 0 or 1.
-fn read_value(byte: u8) -> Result<Value, Refusal>
-    ensures { MatchResult result (λ v. (b : Bool) × (byte_of b ≡ byte) × (v ≡ bit b)) (λ e. (e ≡ Valuation) × ((b : Bool) → byte_of b ≢ byte)) }
+fn read_value(byte: u8) -> Result<Value, Failure>
+    ensures { MatchResult result (IsRead byte) (IsUnread byte) }
 {
     match byte {
         0 => Ok(Value::Zero),
         1 => Ok(Value::One),
-        _ => Err(Refusal::Valuation),
+        _ => Err(Refusal::Valuation.into()),
     }
 }
 
@@ -27,12 +26,7 @@ fn read_values(heap: Global, bytes: &[u8]) -> Result<Vec<Value>, Failure>
         (λ v. ValuesOf bytes.now v.items)
         (λ e. NotRead ((bits : List Bool) → Bits bytes.now bits → ⊥) e) }
 {
-    let mut values = Vec::with_capacity(heap, bytes.len())?;
-    for byte in bytes {
-        let value = read_value(*byte)?;
-        values.push(value)?;
-    }
-    Ok(values)
+    bytes.iter().map(|byte| read_value(*byte)).try_collect(heap)
 }
 
 /// How many rows of `width` bytes a length is; of rows without bytes there are `depth`.
@@ -55,6 +49,7 @@ pub fn read_rows(heap: Global, board: &Board, bytes: &[u8]) -> Result<Vec<Vec<Va
     let width = board.inputs();
     let count = count_rows(width, board.depth() as usize, bytes.len())?;
     let mut rows = Vec::with_capacity(heap, count)?;
+    // By length and not by chunks: a board without inputs has rows of no bytes.
     let mut rest = bytes;
     for _ in 0..count {
         let (row, more) = rest.split_at(width);

@@ -26,6 +26,7 @@ fn last_frame(frames: &[Vec<Value>]) -> Option<&[Value]>
 }
 
 /// The frame that follows the frame before, if there is one, under a row of inputs.
+// The heap is a parameter beside the board, as in each call of std that allocates.
 fn next_frame(
     heap: Global,
     board: &Board,

@@ -1,7 +1,7 @@
 use Rattle.std.proofs.Common.{◌+◌, ◌*◌, [], ◌∷◌, map, vec_items, sym, ap, ◌∙◌, subst, arith}
 use Rattle.std.proofs.lemmas.Result.{err_from_is_err_and}
 use Rattle.std.proofs.lemmas.List.{map-append}
-use Rattle.runs.proofs.Reading.{RowsSoFar, not_read_since, no_rows_count, no_rows_yet, row_left, no_rows_part, rows_more, rows_read}
+use Rattle.runs.proofs.Reading.{RowsSoFar, not_read_since, no_rows_count, row_left, no_rows_part, rows_more, rows_read}
 use Rattle.runs.proofs.rows.read_rows.Goals as goal
 
 pub returns-in_err-count : goal.returns-in_err-count
@@ -10,11 +10,6 @@ returns-in_err-count c =
     let p = err_from_is_err_and c.from_residual.result c.from_residual.ensures.1 in
     let told = c.in_err-count.ensures in
     rw (p.1, p.2) (told.0, no_rows_count (vec_items board.gates) board.depth c.args.bytes.now c.inputs-width.result c.inputs-width.ensures told.1)
-
-pub loop-init : goal.loop-init
-loop-init c =
-    let gs = vec_items c.args.board.now.gates in
-    subst (λ xs. RowsSoFar gs c.args.bytes.now c.args.bytes.now (map vec_items xs) 0) (sym (c.in_ok-rows.ensures.items)) (no_rows_yet gs c.args.bytes.now)
 
 pub split_at-requires : goal.split_at-requires
 split_at-requires c =

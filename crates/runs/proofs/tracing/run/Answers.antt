@@ -1,17 +1,11 @@
-use Rattle.std.proofs.Common.{◌≡◌, suc, [], ◌∷◌, ◌+◌, map, length, vec_items, sym, ap, ◌∙◌, subst, add-one, arith}
+use Rattle.std.proofs.Common.{◌≡◌, suc, [], ◌∷◌, ◌+◌, map, length, vec_items, sym, ap, ◌∙◌, add-one, arith}
 use Rattle.std.proofs.lemmas.List.{map-append, length-map}
 use Rattle.solutions.specs.Runs.{bit}
 use Rattle.frames.specs.Frames.{long_before}
 use Rattle.runs.specs.Traces.{last_of}
-use Rattle.runs.proofs.Running.{own_wires, own_property, Reached, last_long, reached_none, judged_good}
+use Rattle.runs.proofs.Running.{own_wires, own_property, last_long, judged_good}
 use Rattle.runs.proofs.Turning.{row_long, turn_bad, turn_good}
 use Rattle.runs.proofs.tracing.run.Goals as goal
-
-pub loop-inputs-init : goal.loop-inputs-init
-loop-inputs-init g c =
-    let board = c.args.board.now in
-    let gs = vec_items board.gates in
-    subst (λ xs. Reached gs board.property g.bits (map vec_items xs) 0) (sym c.new-frames.ensures.items) (reached_none gs board.property g.bits)
 
 pub next_frame-requires : goal.next_frame-requires
 next_frame-requires g c =
