@@ -14,10 +14,12 @@ use std::slice::Iter;
 use values::ValueKind;
 
 /// The value of a wire in a row, undefined past the row's end.
-fn at<V: ValueKind>(row: &[V], wire: usize) -> V
+fn at<V: ValueKind>(row: &[V], wire: u8) -> V
     ensures { result ≡ reads V.ValueKind.meaning row.now wire }
 {
-    row.get(wire).copied().unwrap_or(V::undefined())
+    row.get(usize::from(wire))
+        .copied()
+        .unwrap_or(V::undefined())
 }
 
 /// The value that a wire should have; `given` is what an input or a register is given.
@@ -28,12 +30,12 @@ fn wanted<V: ValueKind>(gate: Gate, given: V, row: &[V]) -> V
         Gate::Input | Gate::Register(_) => given,
         Gate::Zero => V::zero(),
         Gate::One => V::one(),
-        Gate::Copy(y) => at(row, y as usize),
-        Gate::Not(y) => at(row, y as usize).not(),
-        Gate::And(y, z) => at(row, y as usize).and(at(row, z as usize)),
-        Gate::Or(y, z) => at(row, y as usize).or(at(row, z as usize)),
-        Gate::Implies(y, z) => at(row, y as usize).implies(at(row, z as usize)),
-        Gate::Xor(y, z) => at(row, y as usize).xor(at(row, z as usize)),
+        Gate::Copy(y) => at(row, y),
+        Gate::Not(y) => at(row, y).not(),
+        Gate::And(y, z) => at(row, y).and(at(row, z)),
+        Gate::Or(y, z) => at(row, y).or(at(row, z)),
+        Gate::Implies(y, z) => at(row, y).implies(at(row, z)),
+        Gate::Xor(y, z) => at(row, y).xor(at(row, z)),
     }
 }
 
@@ -69,7 +71,7 @@ impl<V: ValueKind> Given<'_, V> {
     }
 
     /// The value of a wire in the frame before; before the first frame every wire reads 0.
-    fn at_before(&self, wire: usize) -> V
+    fn at_before(&self, wire: u8) -> V
         ensures { result ≡ frame_before V.ValueKind.meaning (before_of self.now) wire }
     {
         self.before.map_or(V::zero(), |before| at(before, wire))
@@ -82,7 +84,7 @@ impl<V: ValueKind> Given<'_, V> {
     {
         match gate {
             Gate::Input => inputs.next().copied().unwrap_or(V::undefined()),
-            Gate::Register(y) => self.at_before(y as usize),
+            Gate::Register(y) => self.at_before(y),
             _ => V::undefined(),
         }
     }

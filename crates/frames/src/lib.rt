@@ -1,4 +1,4 @@
-//! The frame call, for every value kind, and the run of a board over rows of inputs.
+//! The frame call, for every value kind.
 
 #![tactic(auto)]
 

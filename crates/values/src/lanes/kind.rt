@@ -52,6 +52,7 @@ impl Lanes {
     }
 
     /// One value in each lane.
+    // Named as SIMD types name it; `From<Value>` would not say that the value is repeated.
     pub fn splat(value: Value) -> Lanes
         ensures { result ≡ by_lane (λ k. value) }
     {
@@ -130,7 +131,9 @@ impl ValueKind for Lanes {
     }
 }
 
-/// The lane kind is 64 copies of the single kind: in each lane the undefined value, 0, 1 and each gate are the single kind's, the order is the single kind's in every lane, the rank is the number of defined lanes, and lanes that agree in each of the 64 places are equal.
+/// The lane kind is 64 copies of the single kind: in each lane the undefined value, 0, 1 and each gate are the single kind's,
+/// the order is the single kind's in every lane, the rank is the number of defined lanes, and lanes that agree in each of the
+/// 64 places are equal.
 pub fn lanes_are_single()
     ensures { Lanewise }
 {}
