@@ -24,7 +24,7 @@ pub fn take_record(bytes: &[u8]) -> Option<(Gate, &[u8])>
 }
 
 /// The gate of bytes that are exactly one record.
-// An `Option` and no `TryFrom`: a gate is all that the bytes can lack, and which refusal that is the reader says.
+// An `Option`, and no `TryFrom` with an error: bytes are a record or not, and each reader says which refusal that is.
 pub fn read_record(bytes: &[u8]) -> Option<Gate>
     ensures value { result ≡ gate_in bytes.now }
     ensures law { Recorded bytes.now result }
