@@ -89,8 +89,7 @@ mod tests {
         let heap = rt.alloc();
         let mut file = Vec::new(heap);
         for w in 0..=255u8 {
-            file.push(9u8)?;
-            file.push(w)?;
+            file.extend_from_slice(&[9, w])?;
         }
         file.extend_from_slice(&[15, 0, 8])?;
         let mut base = formula_of(heap, file.as_slice(), FormulaKind::Base)?;
