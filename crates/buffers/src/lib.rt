@@ -1,4 +1,4 @@
-//! Writing into a lent buffer, piece after piece.
+//! Texts, piece after piece: how long they are, and their bytes in a lent buffer.
 
 #![tactic(auto)]
 

@@ -22,7 +22,7 @@ pub trait Sink {
     ghost then: { (x y z : Self) (first next : List ℕ) → takes x first y → takes y next z → takes x (first ++ next) z };
 }
 
-/// How long a text is.
+/// How long a text is, up to `usize::MAX`.
 #[derive(Clone, Copy)]
 pub struct Length {
     pub bytes: usize,

@@ -1,4 +1,4 @@
-//! Numbers as decimal text, written into a lent buffer.
+//! Numbers as decimal text, put into a sink or written into a lent buffer.
 
 #![tactic(auto)]
 
