@@ -2,12 +2,12 @@
 
 #![tactic(auto)]
 
-ghost use Rattle.std.specs.Prelude.{◌≡◌, ◌-◌, true, length, replicate, if◌then◌else◌, Some, None, Ok, Err, nat_le};
+ghost use Rattle.std.specs.Prelude.{◌≡◌, ◌-◌, true, length, replicate, if◌then◌else◌, Some, Ok, Err, nat_le};
 ghost use Rattle.std.specs.Option.{option_map};
 ghost use Rattle.refusals.specs.declared.Refusal.TheVariants.{Buffer};
-ghost use Rattle.clauses.specs.Clauses.{length_of, clause_literal, variable as variable_of};
+ghost use Rattle.clauses.specs.Clauses.{clause_literal, variable as variable_of};
 ghost use Rattle.hints.specs.Bytes.{mark_of, marks_of, signed, cleared};
-ghost use Rattle.hints.specs.Hints.{value as value_of, unless_true, falsified, assign, names as names_of, fits as fits_of, all_fit as all_fit_of, weighed, joined, reading as reading_of, by_hints, screened};
+ghost use Rattle.hints.specs.Hints.{falsified, names as names_of, fits as fits_of, all_fit as all_fit_of, weighed, joined, reading as reading_of, by_hints, screened};
 ghost use Rattle.hints.specs.declared.Reading.TheVariants.{Conflict as ReadingConflict};
 
 use clauses::ClauseSource;

@@ -26,7 +26,7 @@ pub struct Refutation<F: ClauseSource, S: Shelf> {
     last: u32,
 }
 
-// Each clause names the members of F and S: the value of a model is data, and what F and S stand for are maps.
+// Each clause names the members of F and S: a model would have to be data, and the terms hold maps, of clauses and of costs.
 impl<F: ClauseSource, S: Shelf> Refutation<F, S> {
     /// Begins to refute a formula of so many clauses and variables. The shelf is wiped.
     pub fn new(formula: F, count: u32, variables: usize, mut shelf: S) -> Refutation<F, S>
