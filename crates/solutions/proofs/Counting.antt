@@ -6,7 +6,7 @@ use Rattle.gates.specs.declared.gate.Gate.{Gate}
 use Rattle.solutions.specs.Solutions.{reads, Least}
 use Rattle.solutions.specs.Rounds.{round, rounds, same_row, most_rounds, frame_rounds, frame_row}
 use Rattle.solutions.specs.Claims.{Named}
-use Rattle.solutions.proofs.OneRound.{rounds_none, rounds_suc, rounds_more, length_rounds}
+use Rattle.solutions.proofs.OneRound.{rounds_none, rounds_suc, rounds_more}
 use Rattle.solutions.proofs.Rows.{same_row_decides}
 use Rattle.solutions.proofs.Rounds.{Changing, changing_none, changing_more, changing_bound, rounds_first, still_least}
 
@@ -25,9 +25,6 @@ module _ {A : Type 0} (K : Kind A) (L : Lawful K) (gs : List Gate) (named : Name
   counting_none = record { row = sym (rounds_none K gs given); changing = changing_none K L gs named given }
 
   module _ (k : ℕ) (xs : List A) (c : Counting K gs given k xs) where
-    pub counting_length : length xs ≡ length gs
-    counting_length = ap length c.row ∙ length_rounds K gs given k
-
     -- so most_rounds K gs - k falls
     pub counting_bound : k < most_rounds K gs
     counting_bound = changing_bound K L gs named given k c.changing

@@ -1,13 +1,6 @@
-use Rattle.std.proofs.Common.{◌<◌, length, sym, ◌∙◌, arith}
+use Rattle.std.proofs.Common.{length, sym, ◌∙◌, arith}
 use Rattle.std.proofs.lemmas.List.{ext_get_or, get_or-replicate, length-replicate}
-use Rattle.std.proofs.lemmas.List.Edits.{fill_by_more}
 use Rattle.frames.proofs.frame.clear.Goals as goal
-
-pub loop-value-preserved : goal.loop-value-preserved
-loop-value-preserved g c =
-    let none = g.V.ValueKind.meaning.undefined in
-    let within : c.loop-value.value-index < length c.loop-value.row = omega arith in
-    rw c.undefined.ensures (fill_by_more (λ k. none) c.loop-value.row c.loop-value.value-index none within c.loop-value.invariant)
 
 pub returns : goal.returns
 returns g c =

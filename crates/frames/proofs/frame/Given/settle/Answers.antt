@@ -1,7 +1,7 @@
 use Rattle.std.proofs.Common.{◌+◌, replicate, sym, refl, ap, ◌∙◌, subst, arith, rules}
 use Rattle.boards.proofs.Closed.{board_few, board_own}
 use Rattle.solutions.specs.Rounds.{same_row}
-use Rattle.solutions.proofs.Counting.{Counting, counting_none, counting_length, counting_bound, counting_more, counting_last}
+use Rattle.solutions.proofs.Counting.{Counting, counting_none, counting_bound, counting_more, counting_last}
 use Rattle.frames.specs.Given.{gates_of, given_of}
 use Rattle.frames.proofs.Sweeping.{few_rounds}
 use Rattle.frames.proofs.frame.Given.settle.Goals as goal
@@ -12,11 +12,6 @@ loop-rounds-init g c =
     let s = c.args.self.now in
     let row = c.clear.ensures ∙ ap (λ n. replicate n K.undefined) c.requires in
     (0, refl, subst (λ xs. Counting K (gates_of s) (given_of K s) 0 xs) (sym row) (counting_none K g.met.V.ValueKind.lawful (gates_of s) (board_own s.board.now) (given_of K s)))
-
-pub sweep-requires : goal.sweep-requires
-sweep-requires g c =
-    let s = c.args.self.now in
-    counting_length g.V.ValueKind.meaning g.met.V.ValueKind.lawful (gates_of s) (board_own s.board.now) _ c.loop-rounds.invariant.0 c.loop-rounds.row c.loop-rounds.invariant.2
 
 pub overflow_add-rounds : goal.overflow_add-rounds
 overflow_add-rounds g c =
