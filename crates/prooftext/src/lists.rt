@@ -10,7 +10,7 @@ ghost use Rattle.prooftext.specs.Lists.{NoList, HasList};
 
 use proofwords::{read_literal, read_number, skip};
 
-/// A word of a list, or the 0 that ends it.
+/// A word of a list, or the 0 that ends it. The small ones can be read, and all of these but the end are good in a list.
 pub(crate) trait Word: Copy {
     ghost written: { Self → List ℕ };
 
