@@ -6,7 +6,7 @@ use gates::Gate;
 /// A closed board: its wires, the property wire and the depth.
 ///
 /// It has 1 to 256 wires and a depth of 1 to 8, and every named wire and the property wire is one of its own.
-// Contracts see it through `sheet`, which theorems on sheets name as well, and not through a model.
+// Its fields and no model: the frame call and the clause sources read its ghost fields, which a model would hide.
 #[derive(Drop)]
 pub struct Board {
     pub(crate) gates: Vec<Gate>,

@@ -50,14 +50,14 @@ impl Drawing {
             return Err(Refusal::Depth);
         }
         let wires = self.gates.len();
-        if property as usize >= wires || !all_name_below(&self.gates, wires) {
+        if usize::from(property) >= wires || !all_name_below(&self.gates, wires) {
             return Err(Refusal::Wire);
         }
         Ok(())
     }
 
     /// Closes the drawing into a board, or hands it back.
-    // The property wire and the depth are given apart: whoever closes has two numbers, and only a file has them together.
+    // Two numbers: a caller may have them from anywhere, and a gate file has them side by side.
     pub fn close(self, property: u8, depth: u8) -> Result<Board, Unclosed>
         ensures { MatchResult result
             (λ b. (closing (sheet_of (drawn self) property depth) ≡ None) × (sheet b ≡ sheet_of (drawn self) property depth))

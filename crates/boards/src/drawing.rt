@@ -5,7 +5,7 @@ use gates::Gate;
 /// A board under drawing: the wires so far, with room for all that a board may have.
 ///
 /// The room is made when the drawing begins, so that no later call can fail for want of memory.
-// Contracts see it through `drawn`, as a board through `sheet`, and not through a model.
+// Its fields and no model, as a board: contracts see it through `drawn`, and nothing reads more of it.
 #[derive(Drop)]
 pub struct Drawing {
     pub(crate) gates: Vec<Gate>,

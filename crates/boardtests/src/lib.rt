@@ -5,7 +5,7 @@
 #[cfg(test)]
 mod tests {
     use boards::{Board, Drawing};
-    use frames::{find_frame, no_frame};
+    use frames::find_frame;
     use gatefiles::{read_file, write_file};
     use gates::Gate;
     use gates::records::read_record;
@@ -22,7 +22,7 @@ mod tests {
         Ok(read_file(Drawing::new(heap)?, file)?)
     }
 
-    // Why a file is not read, if it is not.
+    // Why a file is not read, if it is not. The reason alone is compared, so a board that is read is let go.
     fn why_not(heap: Global, file: &[u8]) -> Result<Option<Refusal>, Failure> {
         Ok(
             read_file(Drawing::new(heap)?, file)
@@ -139,12 +139,12 @@ mod tests {
         let board = board_of(rt.alloc(), &RING)?;
         let mut row = [Value::One; 10];
         assert_eq!(rt;
-            find_frame(&board, &[Value::One], no_frame(), &mut row),
+            find_frame(&board, &[Value::One], None, &mut row),
             Err(Refusal::Buffer)
         );
         assert!(rt; row == [Value::One; 10]);
         let inputs = [Value::One, Value::Zero];
-        assert!(rt; find_frame(&board, &inputs, no_frame(), &mut row).is_ok());
+        assert!(rt; find_frame(&board, &inputs, None, &mut row).is_ok());
         let settled = [
             Value::One,
             Value::Zero,
@@ -166,11 +166,11 @@ mod tests {
         let heap = rt.alloc();
         let mut row = [Value::Zero; 4];
         let own_and = board_of(heap, &[5, 0, 0, 15, 0, 1])?;
-        assert_eq!(rt; find_frame(&own_and, &[], no_frame(), &mut row), Ok(1));
+        assert_eq!(rt; find_frame(&own_and, &[], None, &mut row), Ok(1));
         let constant = board_of(heap, &[2, 15, 0, 1])?;
-        assert_eq!(rt; find_frame(&constant, &[], no_frame(), &mut row), Ok(2));
+        assert_eq!(rt; find_frame(&constant, &[], None, &mut row), Ok(2));
         let backwards = board_of(heap, &[3, 1, 3, 2, 3, 3, 2, 15, 0, 1])?;
-        assert_eq!(rt; find_frame(&backwards, &[], no_frame(), &mut row), Ok(5));
+        assert_eq!(rt; find_frame(&backwards, &[], None, &mut row), Ok(5));
         Ok(())
     }
 
@@ -179,7 +179,7 @@ mod tests {
         let toggle = board_of(rt.alloc(), &[9, 1, 4, 0, 15, 1, 2])?;
         let mut first = [Value::Undefined; 2];
         let mut second = [Value::Undefined; 2];
-        find_frame(&toggle, &[], no_frame(), &mut first)?;
+        find_frame(&toggle, &[], None, &mut first)?;
         assert!(rt; first == [Value::Zero, Value::One]);
         assert_eq!(rt;
             find_frame(&toggle, &[], Some(&first[0..1]), &mut second),

@@ -21,6 +21,7 @@ pub fn write_bytes(buffer: &mut [u8], at: usize, bytes: &[u8]) -> Result<usize, 
     if buffer.len() < length || buffer.len() - length < at {
         return Err(Refusal::Buffer);
     }
+    // By range: of a part lent by `get_mut` it is not known what the buffer holds afterwards.
     buffer[at..at + length].copy_from_slice(bytes);
     Ok(at + length)
 }

@@ -40,7 +40,7 @@ impl Sink for Length {
     }
 }
 
-/// A lent buffer, and the place where the next bytes go. Bytes that do not fit are left out, so whoever writes a text asks for its
+/// The whole of a lent buffer, and the place where the next bytes go. Bytes that do not fit are left out, so whoever writes a text asks for its
 /// length first.
 #[derive(Drop)]
 pub struct Writer<'a> {

@@ -12,6 +12,7 @@ use itoa::{Buffer as Digits, Integer};
 use refusals::Refusal;
 
 /// How many digits the number has.
+// This and the next are for callers that have a buffer and no sink.
 pub fn decimal_length(number: u32) -> usize
     ensures { result ≡ length (text_of number) }
 {

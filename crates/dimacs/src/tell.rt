@@ -6,6 +6,7 @@ use sources::Formula;
 use std::alloc::{AllocError, Global};
 
 /// `base 3 6`: how many variables the formula has, and how many clauses.
+// No `Display`: this is a line of a report; the text of a formula is another.
 pub fn tell_formula(heap: Global, formula: &Formula) -> Result<String, AllocError>
     ensures { IfOk result (λ t. string_bytes t ≡ formula_line formula.now.kind (variables_of formula.now) (length (clauses_of formula.now))) }
 {

@@ -113,6 +113,7 @@ impl<V: ValueKind> Given<'_, V> {
         ensures after { row.new ≡ frame_row V.ValueKind.meaning (gates_of self.now) (given_of V.ValueKind.meaning self.now) }
     {
         clear(row);
+        // Counted as they are made: how many there will be is not known before.
         let mut rounds = 1;
         while self.sweep(row) {
             rounds += 1;

@@ -34,6 +34,7 @@ fn draw_file(drawing: &mut Drawing, file: &[u8]) -> Result<Ending, Refusal>
 {
     drawing.clear();
     let mut rest = file;
+    // Once there is no room, there is none for a later record: the last answer tells.
     let mut room = Ok(());
     'records: while let Some((gate, next)) = take_record(rest) {
         room = drawing.add_gate(gate);

@@ -14,6 +14,7 @@ use refusals::Refusal;
 pub(crate) const ENDING: u8 = 15;
 
 /// Puts the record of a gate into the sink.
+// By the numbers of the format, as `take_record` reads them.
 fn put_record<S: Sink>(out: &mut S, gate: Gate)
     ensures { S.takes out.old (record_of gate) out.new }
 {
@@ -58,6 +59,7 @@ pub fn write_file(board: &Board, buffer: &mut [u8]) -> Result<usize, Refusal>
     ensures after { buffer.new ≡ (if is_ok result then written_at 0 (file_of (sheet board.now)) buffer.old else buffer.old) }
     ensures readable { IfOk result (λ n. (take n buffer.new ≡ file_of (sheet board.now)) × (file_closing (sheet board.now) ≡ None)) }
 {
+    // The length first: a buffer that is too short is left as it was.
     let length = file_length(board);
     if buffer.len() < length {
         return Err(Refusal::Buffer);

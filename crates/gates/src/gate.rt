@@ -27,9 +27,9 @@ impl Gate {
     {
         match self {
             Gate::Input | Gate::Zero | Gate::One => true,
-            Gate::Copy(y) | Gate::Not(y) | Gate::Register(y) => (y as usize) < wires,
+            Gate::Copy(y) | Gate::Not(y) | Gate::Register(y) => usize::from(y) < wires,
             Gate::And(y, z) | Gate::Or(y, z) | Gate::Implies(y, z) | Gate::Xor(y, z) => {
-                (y as usize) < wires && (z as usize) < wires
+                usize::from(y) < wires && usize::from(z) < wires
             }
         }
     }

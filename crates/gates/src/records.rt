@@ -5,6 +5,7 @@ ghost use Rattle.gates.specs.Records.{first_record, gate_in, Recorded};
 use crate::gate::Gate;
 
 /// The record that the bytes begin with, and the bytes after it.
+// By the numbers of the format: a file has them, and no code beside what reads and writes files.
 pub fn take_record(bytes: &[u8]) -> Option<(Gate, &[u8])>
     ensures { option_map (λ x. (x.0, x.1.now)) result ≡ first_record bytes.now }
 {
@@ -24,7 +25,7 @@ pub fn take_record(bytes: &[u8]) -> Option<(Gate, &[u8])>
 }
 
 /// The gate of bytes that are exactly one record.
-// An `Option`, and no `TryFrom` with an error: bytes are a record or not, and each reader says which refusal that is.
+// An `Option` and no `TryFrom`: the one way to fail needs no error type, and the refusals are of a crate that this one lacks.
 pub fn read_record(bytes: &[u8]) -> Option<Gate>
     ensures value { result ≡ gate_in bytes.now }
     ensures law { Recorded bytes.now result }

@@ -14,6 +14,7 @@ use clauses::ClauseSource;
 use refusals::Refusal;
 
 /// What a clause says under the marks.
+// Three outcomes, none of which is a refusal by itself.
 #[derive(Clone, Copy, PartialEq, Eq, Debug)]
 pub enum Reading {
     /// All its literals are false.
@@ -92,6 +93,7 @@ fn mark(literal: i32, to: bool) -> u8
 }
 
 /// Reads one more literal of a clause, if there is one.
+// Source and marks apart, and `steady` in each clause: it relates a source before and after, which no type can hold.
 fn read_literal<C: ClauseSource>(
     source: &mut C,
     marks: &[u8],
@@ -160,6 +162,7 @@ fn all_fit(variables: usize, literals: &[i32]) -> bool
 }
 
 /// Makes each literal false, if that can be done: not where two are opposite.
+// No `Result`: two opposite literals are no refusal, the line follows then.
 fn falsify(marks: &mut [u8], literals: &[i32]) -> Option<()>
     requires { all_fit_of (length marks.old) literals.now ≡ true }
     ensures { falsified (marks_of marks.old) literals.now ≡ option_map (λ _. marks_of marks.new) result }
@@ -223,7 +226,7 @@ pub fn clear(marks: &mut [u8], variables: usize) -> Result<(), Refusal>
     ensures answer { result ≡ (if nat_le variables (length marks.old) then Ok tt else Err Buffer) }
     ensures marks { marks.new ≡ cleared variables marks.old }
 {
-    if variables > marks.len() {
+    if marks.len() < variables {
         return Err(Refusal::Buffer);
     }
     // By range: of a part lent by `get_mut` it is not known what the marks hold afterwards.

@@ -23,7 +23,7 @@ impl Rule for ByWords {
     ghost costs_something = { pool_costs };
 
     fn cost(length: u32) -> Option<u64> {
-        Some(length as u64 + 2)
+        Some(u64::from(length) + 2)
     }
 
     fn room(words: usize) -> Room {

@@ -88,6 +88,7 @@ pub(crate) fn read_list<'t, W: Word>(text: &'t [u8], row: &mut [W]) -> Option<(u
     ensures { MatchOption result (NoList W.written W.IsGood text.now)
         (λ r. HasList W.written W.IsGood text.now row.old row.new r.0 r.1.now) }
 {
+    // A word's length is known once it is read, and words that the row has no room for are counted all the same.
     let mut count = 0;
     let mut rest = text;
     'words: loop {

@@ -1,6 +1,7 @@
 ghost use Rattle.std.specs.Prelude.{◌≡◌};
 
 /// A reader of a proof text, one line at a time.
+// The whole text and a place in it: how many bytes are read is asked for.
 #[derive(Drop)]
 pub struct Reader<'a> {
     pub(crate) text: &'a [u8],

@@ -14,6 +14,8 @@ pub(crate) struct Rows<'a> {
 }
 
 impl Rows<'_> {
+    // That the lent rows are kept relates them before and after a call, so each call says it.
+
     /// Fills both rows with 0.
     pub(crate) fn clear(&mut self)
         ensures same { SameRows self.old self.new }

@@ -57,6 +57,7 @@ impl Refusal {
     }
 
     /// What was refused, in words.
+    // As `&'static str`, for callers without a formatter; `Display` writes it.
     pub fn words(self) -> &'static str
         ensures { result.now ≡ words_of self }
     {
@@ -91,6 +92,7 @@ impl fmt::Display for Refusal {
 impl Error for Refusal {}
 
 /// Why a call that allocates did not succeed.
+// No `Option`: want of memory is a failure with words of its own.
 #[derive(Clone, Copy, PartialEq, Eq, Debug)]
 pub enum Failure {
     Refused(Refusal),
@@ -100,6 +102,7 @@ pub enum Failure {
 
 impl Failure {
     /// What failed, in words.
+    // As `&'static str`, as a refusal's.
     pub fn words(self) -> &'static str
         ensures { result.now ≡ failure_words self }
     {

@@ -29,6 +29,7 @@ pub struct Refutation<F: ClauseSource, S: Shelf> {
 // Each clause names the members of F and S: a model would have to be data, and the terms hold maps, of clauses and of costs.
 impl<F: ClauseSource, S: Shelf> Refutation<F, S> {
     /// Begins to refute a formula of so many clauses and variables. The shelf is wiped.
+    // The counts beside the formula: a source does not say how many clauses it has.
     pub fn new(formula: F, count: u32, variables: usize, mut shelf: S) -> Refutation<F, S>
         ensures terms { terms_of F.ClauseSource.clauses S.Shelf.capacity S.Shelf.cost result ≡ terms variables count (F.ClauseSource.clauses formula) (S.Shelf.capacity shelf) S.Shelf.cost }
         ensures progress { progress_of S.Shelf.lines result ≡ progress count [] }

@@ -63,7 +63,7 @@ impl Shelf for Lone {
     }
 
     fn cost(length: u32) -> Option<u64> {
-        if length == 1 { Some(1) } else { None }
+        (length == 1).then_some(1)
     }
 
     fn keep(&mut self, number: u32, literals: &[i32]) -> Result<(), Refusal> {

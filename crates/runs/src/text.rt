@@ -8,6 +8,7 @@ use std::alloc::{AllocError, Global};
 use values::Value;
 
 /// `board 9 0`: how many wires the board has, and how many registers.
+// No `Display`: this is a line of a report, and not the text of a board.
 pub fn tell_board(heap: Global, board: &Board) -> Result<String, AllocError>
     ensures { IfOk result (λ t. string_bytes t ≡ board_line (length (sheet board.now).gates) (rank is_register (sheet board.now).gates (length (sheet board.now).gates))) }
 {
@@ -17,6 +18,7 @@ pub fn tell_board(heap: Global, board: &Board) -> Result<String, AllocError>
 }
 
 /// `frame 1: 1 1 0 U`: every wire's value in order.
+// No `Display`: a row of values does not know its number.
 pub fn tell_frame(heap: Global, number: usize, values: &[Value]) -> Result<String, AllocError>
     ensures { IfOk result (λ t. string_bytes t ≡ frame_line number values.now) }
 {

@@ -4,7 +4,7 @@ use std::fmt;
 use values::Value;
 
 /// What was found of a run. Frames are counted from 1, wires from 0.
-// No Result: that a run is bad is an answer and no failure.
+// No `Result`: that a run is bad is an answer and no failure. With its number of frames, since it is printed without them.
 #[derive(Clone, Copy, PartialEq, Eq, Debug)]
 pub enum Verdict {
     /// The first bad frame, and its lowest undefined wire, or the property wire where every wire is defined.

@@ -40,6 +40,7 @@ impl<F: ClauseSource, S: Shelf> ClauseSource for Premises<F, S> {
 
     ghost same = { λ x y p. premises_same p.0 (F.ClauseSource.same _ _ p.1) (S.ClauseSource.same _ _ p.2) };
 
+    // Each question by itself: formula and shelf are of two types.
     fn length(&mut self, number: u32) -> Option<usize> {
         if self.in_formula(number) {
             self.formula.length(number)

@@ -18,6 +18,7 @@ pub trait Shelf: ClauseSource {
     ghost cost: { ℕ → Option ℕ };
 
     /// What may be kept in all.
+    // That it stays relates a shelf before and after a call, so each call that changes lines says it.
     fn capacity(&self) -> usize
         ensures { result ≡ capacity self.now };
 

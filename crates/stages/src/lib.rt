@@ -62,6 +62,7 @@ impl Stage {
     }
 
     /// The stage as it is written in a report.
+    // As `&'static str`, for callers without a formatter; `Display` writes it.
     pub fn name(self) -> &'static str
         ensures { result.now ≡ stage_name self }
     {

@@ -21,6 +21,7 @@ pub(crate) fn line_up(entries: &mut Vec<Entry>, at: usize, from: usize)
     ensures items { entries.new.items ≡ take at entries.old.items ++ lined_up from (drop at entries.old.items) }
     ensures room { vec_capacity entries.new ≡ vec_capacity entries.old }
 {
+    // Each entry is written in its turn, from where the one before it ends.
     let mut start = from;
     for entry in entries[at..].iter_mut() {
         entry.start = start;

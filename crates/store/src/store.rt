@@ -7,7 +7,8 @@ use crate::entry::Entry;
 ///
 /// Row and entries have their room from the start, so that keeping a line never allocates.
 /// The memo is a place that may be the one asked for next; it is tested before it is used.
-// Its fields and no model: a shelf's law that the lines rise is read from the ghost field `rising`.
+// Its fields and no model: a shelf's law that the lines rise is read from the ghost field `rising`. What stays over a call, room or
+// lines, relates the store before and after, so each call says it.
 #[derive(Drop)]
 pub struct Store {
     pub(crate) entries: Vec<Entry>,

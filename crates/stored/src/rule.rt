@@ -29,6 +29,7 @@ pub trait Rule {
         ensures enough { Holds cost result.capacity result.lines result.literals };
 
     /// Whether a line of a length can be kept beside so many lines of so many literals.
+    // By numbers: a rule sees no lines.
     fn allows(limit: usize, lines: usize, literals: usize, size: usize) -> bool
         ensures { (xs : Lines) → priced cost xs ≡ true → lines ≡ length xs → literals ≡ literals_in xs → result ≡ affords limit (total cost xs) (cost size) };
 

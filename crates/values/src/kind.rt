@@ -11,6 +11,8 @@ pub trait ValueKind: Copy + PartialEq {
     // the constant, as the laws name it
     ghost HEIGHT: { ℕ };
 
+    // The gates are methods and no operators: `implies` has none, and the laws name the five together.
+
     // the values, gates, order and ranks that the functions below answer by
     ghost meaning: { Kind Self };
 

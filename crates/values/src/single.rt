@@ -6,6 +6,7 @@ use crate::kind::ValueKind;
 use std::fmt;
 
 /// What a wire is in one frame.
+// No `Option<bool>`: undefined is a value as the two others are, and the gates work on all three.
 #[derive(Clone, Copy, PartialEq, Eq, Debug)]
 pub enum Value {
     Undefined,
