@@ -4,9 +4,6 @@ use Rattle.std.proofs.lemmas.Bool.{le-ltb}
 use Rattle.values.specs.Bits.{bit_above}
 use Rattle.values.proofs.lanes.kind.up.Goals as goal
 
-pub returns-then-at-lt64 : goal.returns-then-at-lt64
-returns-then-at-lt64 c = ap (λ (z : ℕ). eqb z 1) (and_mask (c.args.word / 2 ^ c.args.at) 1)
-
 pub returns-else-at-lt64 : goal.returns-else-at-lt64
 returns-else-at-lt64 c =
     le-ltb c.args.at 64 (omega arith) ∙ sym (bit_above 64 c.args.at c.args.word (search rules) (λ h. omega arith))
