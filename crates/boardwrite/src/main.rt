@@ -18,17 +18,17 @@ fn draft(rt: &HostRuntime, name: &str, text: &[u8]) -> anyhow::Result<()> {
 }
 
 // The formula's text, and the line that tells of it.
-fn text_and_line(rt: &HostRuntime, formula: &mut Formula) -> anyhow::Result<(Vec<u8>, String)> {
+fn text_and_line(rt: &HostRuntime, formula: &Formula) -> anyhow::Result<(Vec<u8>, String)> {
     let heap = rt.alloc();
     Ok((dimacs_text(heap, formula)?, tell_formula(heap, formula)?))
 }
 
 fn write_formulas(rt: &HostRuntime, board: Board) -> anyhow::Result<()> {
     let first = tell_board(rt.alloc(), &board)?;
-    let mut base = Formula::new(board, FormulaKind::Base);
-    let (base_text, base_line) = text_and_line(rt, &mut base)?;
-    let mut step = Formula::new(base.into_board(), FormulaKind::Step);
-    let (step_text, step_line) = text_and_line(rt, &mut step)?;
+    let base = Formula::new(board, FormulaKind::Base);
+    let (base_text, base_line) = text_and_line(rt, &base)?;
+    let step = Formula::new(base.into_board(), FormulaKind::Step);
+    let (step_text, step_line) = text_and_line(rt, &step)?;
     // Both files are written under other names first, so that neither is ever half-written.
     draft(rt, "base.cnf.new", base_text.as_slice())?;
     draft(rt, "step.cnf.new", step_text.as_slice())?;

@@ -17,17 +17,13 @@ pub literals_length : (c : Option Clause) (asked : Option ℕ) (n : ℕ) → ask
 literals_length None asked n e p = p ∙ ap (λ o. unwrap_or o 0) e
 literals_length (Some c) asked n e p = p ∙ ap (λ o. unwrap_or o 0) e
 
--- A formula that was asked is the formula at the start.
-module _ (start f : Formula) (number k : ℕ) (same : f ≡ start) where
-  pub found : (l : ℤ) → Some l ≡ clause_literal (numbered (clauses_of f) number) k → (k < length (clause_at start number)) × (get_or (clause_at start number) k (pos 0) ≡ l)
-  found l e = literal_at (numbered (clauses_of start) number) k l (sym (e ∙ ap (λ g. clause_literal (numbered (clauses_of g) number) k) same))
+module _ (f : Formula) (number k : ℕ) where
+  pub found : (l : ℤ) → Some l ≡ clause_literal (numbered (clauses_of f) number) k → (k < length (clause_at f number)) × (get_or (clause_at f number) k (pos 0) ≡ l)
+  found l e = literal_at (numbered (clauses_of f) number) k l (sym e)
 
-  pub ended : None ≡ clause_literal (numbered (clauses_of f) number) k → length (clause_at start number) ≤ k
-  ended e = no_literal (numbered (clauses_of start) number) k (sym (e ∙ ap (λ g. clause_literal (numbered (clauses_of g) number) k) same))
+  pub ended : None ≡ clause_literal (numbered (clauses_of f) number) k → length (clause_at f number) ≤ k
+  ended e = no_literal (numbered (clauses_of f) number) k (sym e)
 
 -- The clause of the number behind k is the k-th of the formula, counted from 0.
-numbered_at : (cs : List Clause) (k : ℕ) → k < length cs → get_or cs k [] ≡ literals (numbered cs (k + 1))
+pub numbered_at : (cs : List Clause) (k : ℕ) → k < length cs → get_or cs k [] ≡ literals (numbered cs (k + 1))
 numbered_at cs k h = rw add-one (ap literals (sym (slice_get-get_or cs k [] h)))
-
-pub line_at : (start f : Formula) (k : ℕ) → f ≡ start → k < length (clauses_of start) → get_or (clauses_of start) k [] ≡ clause_at f (k + 1)
-line_at start f k same h = numbered_at (clauses_of start) k h ∙ ap (λ g. clause_at g (k + 1)) (sym same)

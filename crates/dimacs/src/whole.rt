@@ -24,23 +24,22 @@ fn put_header<S: Sink>(out: &mut S, variables: u32, clauses: u32)
 }
 
 /// Puts the text of the formula into the sink.
-fn put_formula<S: Sink>(out: &mut S, formula: &mut Formula)
-    ensures text { S.takes out.old (formula_text formula.old) out.new }
-    ensures short { length (formula_text formula.old) < 2 ^ 64 }
-    ensures same { formula.new ≡ formula.old }
+fn put_formula<S: Sink>(out: &mut S, formula: &Formula)
+    ensures text { S.takes out.old (formula_text formula.now) out.new }
+    ensures short { length (formula_text formula.now) < 2 ^ 64 }
 {
     let variables = formula.variables() as u32;
     let clauses = formula.clauses() as u32;
     put_header(out, variables, clauses);
+    // Counted from 0: so many clauses are put before each.
     for before in 0..clauses {
         put_clause(out, formula, before + 1);
     }
 }
 
 /// How many bytes the text of the formula has.
-pub fn dimacs_length(formula: &mut Formula) -> usize
-    ensures is { result ≡ length (formula_text formula.old) }
-    ensures same { formula.new ≡ formula.old }
+pub fn dimacs_length(formula: &Formula) -> usize
+    ensures { result ≡ length (formula_text formula.now) }
 {
     let mut length = Length { bytes: 0 };
     put_formula(&mut length, formula);
@@ -48,9 +47,8 @@ pub fn dimacs_length(formula: &mut Formula) -> usize
 }
 
 /// Writes the text of the formula at the start of a buffer that is long enough.
-fn write_text(formula: &mut Formula, buffer: &mut [u8])
-    ensures text { length (formula_text formula.old) ≤ length buffer.old → buffer.new ≡ written_at 0 (formula_text formula.old) buffer.old }
-    ensures same { formula.new ≡ formula.old }
+fn write_text(formula: &Formula, buffer: &mut [u8])
+    ensures { length (formula_text formula.now) ≤ length buffer.old → buffer.new ≡ written_at 0 (formula_text formula.now) buffer.old }
 {
     let mut writer = Writer { buffer, at: 0 };
     put_formula(&mut writer, formula);
@@ -58,10 +56,9 @@ fn write_text(formula: &mut Formula, buffer: &mut [u8])
 
 /// Writes the text of the formula at the buffer's start, and answers its length. A buffer that is too short is refused, and
 /// nothing is written.
-pub fn write_dimacs(formula: &mut Formula, buffer: &mut [u8]) -> Result<usize, Refusal>
-    ensures answer { result ≡ (if nat_le (length (formula_text formula.old)) (length buffer.old) then Ok (length (formula_text formula.old)) else Err Buffer) }
-    ensures after { buffer.new ≡ (if is_ok result then written_at 0 (formula_text formula.old) buffer.old else buffer.old) }
-    ensures same { formula.new ≡ formula.old }
+pub fn write_dimacs(formula: &Formula, buffer: &mut [u8]) -> Result<usize, Refusal>
+    ensures answer { result ≡ (if nat_le (length (formula_text formula.now)) (length buffer.old) then Ok (length (formula_text formula.now)) else Err Buffer) }
+    ensures after { buffer.new ≡ (if is_ok result then written_at 0 (formula_text formula.now) buffer.old else buffer.old) }
 {
     let length = dimacs_length(formula);
     if buffer.len() < length {
@@ -72,11 +69,10 @@ pub fn write_dimacs(formula: &mut Formula, buffer: &mut [u8]) -> Result<usize, R
 }
 
 /// The text of the formula.
-pub fn dimacs_text(heap: Global, formula: &mut Formula) -> Result<Vec<u8>, Failure>
-    ensures text { MatchResult result
-        (λ v. v.items ≡ formula_text formula.old)
+pub fn dimacs_text(heap: Global, formula: &Formula) -> Result<Vec<u8>, Failure>
+    ensures { MatchResult result
+        (λ v. v.items ≡ formula_text formula.now)
         (λ e. e ≡ Memory) }
-    ensures same { formula.new ≡ formula.old }
 {
     let mut text = vec![in heap; 0u8; dimacs_length(formula)]?;
     write_text(formula, text.as_mut_slice());

@@ -28,11 +28,11 @@ mod tests {
         base: &[u8],
         step: &[u8],
     ) -> Result<(), Fail> {
-        let mut formula = formula_of(heap, file, FormulaKind::Base)?;
-        let text = dimacs_text(heap, &mut formula)?;
+        let formula = formula_of(heap, file, FormulaKind::Base)?;
+        let text = dimacs_text(heap, &formula)?;
         assert!(rt; text.as_slice() == base);
-        let mut formula = Formula::new(formula.into_board(), FormulaKind::Step);
-        let text = dimacs_text(heap, &mut formula)?;
+        let formula = Formula::new(formula.into_board(), FormulaKind::Step);
+        let text = dimacs_text(heap, &formula)?;
         assert!(rt; text.as_slice() == step);
         Ok(())
     }
@@ -61,19 +61,19 @@ mod tests {
     #[test]
     fn edges_of_a_buffer(rt: HostRuntime) -> Result<(), Fail> {
         let text = b"p cnf 3 6\n-1 -2 0\n-1 0\n2 0\n-3 -1 0\n-3 -2 0\n3 -2 0\n";
-        let mut formula = formula_of(rt.alloc(), &CONSTANT, FormulaKind::Base)?;
-        assert!(rt; dimacs_length(&mut formula) == 50);
+        let formula = formula_of(rt.alloc(), &CONSTANT, FormulaKind::Base)?;
+        assert!(rt; dimacs_length(&formula) == 50);
         let mut short = [7u8; 49];
         assert_eq!(rt;
-            write_dimacs(&mut formula, &mut short),
+            write_dimacs(&formula, &mut short),
             Err(Refusal::Buffer)
         );
         assert!(rt; short == [7u8; 49]);
         let mut exact = [7u8; 50];
-        assert_eq!(rt; write_dimacs(&mut formula, &mut exact), Ok(50));
+        assert_eq!(rt; write_dimacs(&formula, &mut exact), Ok(50));
         assert!(rt; &exact[0..50] == &text[0..50]);
         let mut long = [7u8; 52];
-        assert_eq!(rt; write_dimacs(&mut formula, &mut long), Ok(50));
+        assert_eq!(rt; write_dimacs(&formula, &mut long), Ok(50));
         assert!(rt; &long[0..50] == &text[0..50]);
         assert!(rt; long[50] == 7 && long[51] == 7);
         Ok(())
@@ -89,12 +89,12 @@ mod tests {
             file.extend_from_slice(&[9, w])?;
         }
         file.extend_from_slice(&[15, 0, 8])?;
-        let mut base = formula_of(heap, file.as_slice(), FormulaKind::Base)?;
+        let base = formula_of(heap, file.as_slice(), FormulaKind::Base)?;
         assert!(rt; base.variables() == 6144 && base.clauses() == 12033);
-        assert!(rt; dimacs_length(&mut base) == 164049);
-        let mut step = Formula::new(base.into_board(), FormulaKind::Step);
+        assert!(rt; dimacs_length(&base) == 164049);
+        let step = Formula::new(base.into_board(), FormulaKind::Step);
         assert!(rt; step.variables() == 14080 && step.clauses() == 29741);
-        assert!(rt; dimacs_length(&mut step) == 541058);
+        assert!(rt; dimacs_length(&step) == 541058);
         Ok(())
     }
 }

@@ -1,6 +1,6 @@
 ghost use Rattle.std.specs.Prelude.{◌≡◌, ◌≤◌, length};
 ghost use Rattle.boards.specs.Sheets.{sheet};
-ghost use Rattle.clauses.specs.Clauses.{numbered};
+ghost use Rattle.clauses.specs.Clauses.{numbered, length_of, clause_literal};
 ghost use Rattle.sources.specs.Meaning.{tail_of, clauses_of, variables_of};
 ghost use Rattle.std.proofs.Common.{◌∙◌, ap, refl};
 
@@ -61,6 +61,23 @@ impl Formula {
         self.frames_size() + self.tail_size()
     }
 
+    /// How many literals the clause of a number has, if there is one.
+    pub fn clause_length(&self, number: u32) -> Option<usize>
+        ensures { result ≡ length_of (numbered (clauses_of self.now) number) }
+    {
+        let shape = self.numbered(number)?;
+        Some(shape.length())
+    }
+
+    /// The literal at a place of the clause of a number, if there is one. Places count from 0.
+    pub fn clause_literal(&self, number: u32, at: usize) -> Option<i32>
+        ensures { result ≡ clause_literal (numbered (clauses_of self.now) number) at }
+    {
+        let shape = self.numbered(number)?;
+        let literal = shape.literal(self.outline(), at)?;
+        Some(i32::from(literal))
+    }
+
     /// How many clauses there are behind the frames.
     fn tail_size(&self) -> usize
         ensures is { result ≡ length (tail_of self.now.kind (sheet self.now.board)) }
@@ -92,13 +109,10 @@ impl ClauseSource for Formula {
     ghost same = { λ x y p. ap (λ f. numbered (clauses_of f)) p };
 
     fn length(&mut self, number: u32) -> Option<usize> {
-        let shape = self.numbered(number)?;
-        Some(shape.length())
+        self.clause_length(number)
     }
 
     fn literal(&mut self, number: u32, at: usize) -> Option<i32> {
-        let shape = self.numbered(number)?;
-        let literal = shape.literal(self.outline(), at)?;
-        Some(i32::from(literal))
+        self.clause_literal(number, at)
     }
 }

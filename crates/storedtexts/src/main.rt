@@ -7,7 +7,7 @@ use sources::{Formula, FormulaKind};
 use std::fs;
 
 // Tells the formula's numbers, and whether its text is the stored one.
-fn compare(rt: &HostRuntime, formula: &mut Formula, stored: &str) -> anyhow::Result<()> {
+fn compare(rt: &HostRuntime, formula: &Formula, stored: &str) -> anyhow::Result<()> {
     let heap = rt.alloc();
     let text = dimacs_text(heap, formula)?;
     let line = tell_formula(heap, formula)?;
@@ -25,10 +25,10 @@ fn compare_board(rt: &HostRuntime, name: &str) -> anyhow::Result<()> {
     let heap = rt.alloc();
     let file = fs::read(rt, format!(in heap; "{name}.bin")?)?;
     let board = read_board(rt, file.as_slice())?;
-    let mut base = Formula::new(board, FormulaKind::Base);
-    compare(rt, &mut base, format!(in heap; "{name}-base.cnf")?.as_str())?;
-    let mut step = Formula::new(base.into_board(), FormulaKind::Step);
-    compare(rt, &mut step, format!(in heap; "{name}-step.cnf")?.as_str())
+    let base = Formula::new(board, FormulaKind::Base);
+    compare(rt, &base, format!(in heap; "{name}-base.cnf")?.as_str())?;
+    let step = Formula::new(base.into_board(), FormulaKind::Step);
+    compare(rt, &step, format!(in heap; "{name}-step.cnf")?.as_str())
 }
 
 fn run(rt: &HostRuntime) -> anyhow::Result<()> {

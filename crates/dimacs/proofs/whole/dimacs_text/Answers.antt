@@ -1,17 +1,14 @@
-use Rattle.std.proofs.Common.{length, drop, ap, ◌∙◌, arith}
+use Rattle.std.proofs.Common.{length, drop, arith}
 use Rattle.buffers.proofs.Writing.{taken_whole}
 use Rattle.dimacs.specs.Texts.{formula_text}
 use Rattle.dimacs.proofs.whole.dimacs_text.Goals as goal
 
-pub returns-clause-text : goal.returns-clause-text
-returns-clause-text c =
-    let asked = c.dimacs_length.new.formula in
-    let same = ap formula_text c.dimacs_length.ensures.same in
-    let size = ap length same in
+pub returns : goal.returns
+returns c =
+    let text = formula_text c.args.formula.now in
     let made = c.in_ok-text.ensures.len in
     let after = c.write_text.new.buffer in
     let long = c.as_mut_slice.ensures.len in
-    taken_whole (formula_text asked) c.as_mut_slice.result.now after (drop (length after) c.in_ok-text.text.items) c.in_ok-text.text.len
-    (omega (arith, long, made, c.dimacs_length.ensures.is, size)) (omega (arith, made, c.dimacs_length.ensures.is, size))
-    (c.write_text.ensures.text (omega (arith, long, made, c.dimacs_length.ensures.is, size)))
-    ∙ same
+    taken_whole text c.as_mut_slice.result.now after (drop (length after) c.in_ok-text.text.items) c.in_ok-text.text.len
+    (omega (arith, long, made, c.dimacs_length.ensures)) (omega (arith, made, c.dimacs_length.ensures))
+    (c.write_text.ensures (omega (arith, long, made, c.dimacs_length.ensures)))

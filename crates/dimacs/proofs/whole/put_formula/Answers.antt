@@ -1,24 +1,23 @@
-use Rattle.std.proofs.Common.{◌<◌, [], length, ◌∙◌, arith}
+use Rattle.std.proofs.Common.{◌<◌, [], length, arith}
 use Rattle.buffers.proofs.Pieces.{pieces_all, row_more}
 use Rattle.sources.specs.Meaning.{clauses_of}
 use Rattle.dimacs.specs.Dimacs.{header, clause_text}
 use Rattle.dimacs.proofs.Lengths.{text_short}
-use Rattle.dimacs.proofs.Turns.{line_at}
+use Rattle.dimacs.proofs.Turns.{numbered_at}
 use Rattle.dimacs.proofs.whole.put_formula.Goals as goal
 
 pub loop-before-preserved : goal.loop-before-preserved
 loop-before-preserved g c =
-    let i = c.loop-before.invariant in
-    let inside : c.loop-before.before < length (clauses_of c.args.formula.now) = omega (arith, c.clauses-clauses.ensures.is) in
-    let line = line_at c.args.formula.now _ _ i.0 inside in
-    (c.put_clause.ensures.same ∙ i.0, row_more _ g.met.S.Sink.then clause_text _ _ _ _ _ i.1 [] inside (rw line c.put_clause.ensures.line))
+    let cs = clauses_of c.args.formula.now in
+    let inside : c.loop-before.before < length cs = omega (arith, c.clauses-clauses.ensures.is) in
+    row_more _ g.met.S.Sink.then clause_text _ _ _ _ _ c.loop-before.invariant [] inside (rw (numbered_at cs _ inside) c.put_clause.ensures)
 
 pub returns-clause-text : goal.returns-clause-text
 returns-clause-text g c =
     let cs = clauses_of c.args.formula.now in
     let all = pieces_all clause_text cs c.loop-before.before (omega (arith, c.clauses-clauses.ensures.is)) in
     let first = rw (c.variables-variables.ensures.is, c.clauses-clauses.ensures.is) at c.put_header.ensures in
-    g.met.S.Sink.then _ _ _ (header _ (length cs)) _ first (rw all at c.loop-before.invariant.1)
+    g.met.S.Sink.then _ _ _ (header _ (length cs)) _ first (rw all at c.loop-before.invariant)
 
 pub returns-clause-short : goal.returns-clause-short
 returns-clause-short g c =
