@@ -48,7 +48,7 @@ pub fn read_rows(heap: Global, board: &Board, bytes: &[u8]) -> Result<Vec<Vec<Va
         (λ e. NotRead ((rows : List (List Bool)) → Rows (sheet board.now).gates (sheet board.now).depth bytes.now rows → ⊥) e) }
 {
     let width = board.inputs();
-    let count = count_rows(width, usize::from(board.depth()), bytes.len())?;
+    let count = count_rows(width, board.depth() as usize, bytes.len())?;
     let mut rows = Vec::with_capacity(heap, count)?;
     // By length and not by chunks: a board without inputs has rows of no bytes.
     let mut rest = bytes;

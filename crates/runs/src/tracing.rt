@@ -50,7 +50,7 @@ fn run(heap: Global, board: &Board, rows: &[Vec<Value>]) -> Result<Trace, Failur
     requires { HoldsRows (sheet board.now).gates (map vec_items rows.now) bits }
     ensures { MatchResult result (λ t. Found (sheet board.now) bits t) (λ e. e ≡ Memory) }
 {
-    let property = usize::from(board.property());
+    let property = board.property() as usize;
     let mut frames: Vec<Vec<Value>> = Vec::new(heap);
     for inputs in rows {
         let before = last_frame(frames.as_slice());
