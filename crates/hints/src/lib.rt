@@ -226,7 +226,7 @@ pub fn clear(marks: &mut [u8], variables: usize) -> Result<(), Refusal>
     ensures answer { result ≡ (if nat_le variables (length marks.old) then Ok tt else Err Buffer) }
     ensures marks { marks.new ≡ cleared variables marks.old }
 {
-    if marks.len() < variables {
+    if variables > marks.len() {
         return Err(Refusal::Buffer);
     }
     // By range: of a part lent by `get_mut` it is not known what the marks hold afterwards.

@@ -2,6 +2,7 @@
 
 #![tactic(auto)]
 
+ghost use Rattle.std.proofs.Common.{le_refl};
 ghost use Rattle.pool.specs.Laws.{pool_costs};
 ghost use Rattle.pool.specs.Rule.{pool_cost};
 
@@ -21,6 +22,8 @@ impl Rule for ByWords {
     ghost capacity = { λ words. words };
 
     ghost costs_something = { pool_costs };
+
+    ghost within_words = { le_refl };
 
     fn cost(length: u32) -> Option<u64> {
         Some(u64::from(length) + 2)

@@ -3,6 +3,7 @@
 #![tactic(auto)]
 
 ghost use Rattle.std.specs.Prelude.{◌/◌};
+ghost use Rattle.std.proofs.Math.Nat.{div-le_self};
 ghost use Rattle.slots.specs.Laws.{slot_costs};
 ghost use Rattle.slots.specs.Rule.{slot_cost};
 
@@ -26,6 +27,8 @@ impl Rule for BySlots {
     ghost capacity = { λ words. words / 34 };
 
     ghost costs_something = { slot_costs };
+
+    ghost within_words = { λ words. div-le_self words 34 };
 
     fn cost(length: u32) -> Option<u64> {
         (length as usize <= MOST_LITERALS).then_some(1)

@@ -34,4 +34,6 @@ pub trait Rule {
         ensures { (xs : Lines) → priced cost xs ≡ true → lines ≡ length xs → literals ≡ literals_in xs → result ≡ affords limit (total cost xs) (cost size) };
 
     ghost costs_something: { (n k : ℕ) → cost n ≡ Some k → 1 ≤ k };
+
+    ghost within_words: { (words : ℕ) → capacity words ≤ words };
 }

@@ -20,6 +20,7 @@ pub struct Stored<R: Rule> {
     store: Store,
     limit: usize,
     rule: PhantomData<R>,
+    ghost few: { limit ≤ 1048576 },
     ghost each: { priced R.cost (lines_of store) ≡ true },
     ghost within: { total R.cost (lines_of store) ≤ limit },
     ghost roomy: { Holds R.cost limit (line_room store) (literal_room store) },

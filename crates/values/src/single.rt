@@ -1,4 +1,4 @@
-ghost use Rattle.std.specs.Prelude.{[], ◌∷◌, Some, refl};
+ghost use Rattle.std.specs.Prelude.{◌≡◌, [], ◌∷◌, Some, refl};
 ghost use Rattle.values.specs.Single.{single, letter};
 ghost use Rattle.values.specs.Singles.{single_lawful};
 
@@ -86,15 +86,24 @@ impl ValueKind for Value {
     }
 }
 
-/// A letter: `U`, `0` or `1`.
+impl Value {
+    /// The letter of the value: `U`, `0` or `1`.
+    pub fn letter(self) -> char
+        ensures { result ≡ letter self }
+    {
+        match self {
+            Value::Undefined => 'U',
+            Value::Zero => '0',
+            Value::One => '1',
+        }
+    }
+}
+
+/// Writes the value's letter.
 impl fmt::Display for Value {
     ghost output = { λ value. Some (letter value ∷ []) };
 
     fn fmt<W: fmt::Write>(&self, f: &mut fmt::Formatter<W>) -> fmt::Result {
-        f.write_str(match self {
-            Value::Undefined => "U",
-            Value::Zero => "0",
-            Value::One => "1",
-        })
+        f.write_char(self.letter())
     }
 }

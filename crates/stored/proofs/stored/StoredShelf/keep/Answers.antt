@@ -13,6 +13,7 @@ invariant_of-self g c =
     let can : affords s.limit (total cost (lines_of s.store)) (cost (length c.args.literals.now)) ≡ true = sym {b = affords s.limit (total cost (lines_of s.store)) (cost (length c.args.literals.now))} c.if-not-has_room.ensures in
     let after = kept cost s.limit c.args.number c.args.literals.now (lines_of s.store) (lines_of c.keep.new.self) (is_ok c.keep.result) can c.keep.ensures.lines before in
     record {
+      few = s.few;
       each = after.each;
       within = after.sum;
       roomy = still_holds cost s.limit (line_room s.store) (literal_room s.store) (line_room c.keep.new.self) (literal_room c.keep.new.self) s.roomy c.keep.ensures.room.0 c.keep.ensures.room.1;

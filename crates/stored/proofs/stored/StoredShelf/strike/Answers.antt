@@ -9,6 +9,7 @@ invariant_of-self g c =
     let before : Within cost s.limit (lines_of s.store) = record { each = s.each; sum = s.within } in
     let after = struck cost s.limit c.args.number (lines_of s.store) (lines_of c.strike.new.self) c.strike.ensures.lines before in
     record {
+      few = s.few;
       each = after.each;
       within = after.sum;
       roomy = still_holds cost s.limit (line_room s.store) (literal_room s.store) (line_room c.strike.new.self) (literal_room c.strike.new.self) s.roomy c.strike.ensures.room.0 c.strike.ensures.room.1;

@@ -1,5 +1,4 @@
-use Rattle.std.proofs.Common.{ℕ, ◌/◌, ◌^◌, eqb, sym, ap, ◌∙◌, arith, rules}
-use lib.Bits.{and_mask}
+use Rattle.std.proofs.Common.{sym, ◌∙◌, arith, rules}
 use Rattle.std.proofs.lemmas.Bool.{le-ltb}
 use Rattle.values.specs.Bits.{bit_above}
 use Rattle.values.proofs.lanes.kind.up.Goals as goal
