@@ -47,7 +47,7 @@ impl Formula {
     fn behind(&self) -> &[Before]
         ensures { result.now ≡ slice_range self.now.before 1 (length (gates_of self.now) + 1) }
     {
-        &self.before[1..self.board.wires() + 1]
+        &self.before[1..=self.board.wires()]
     }
 
     /// The wire to which the clause at place k of that frame belongs.
