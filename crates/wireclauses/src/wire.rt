@@ -37,6 +37,7 @@ impl Frame {
     pub fn apart(self, wire: u8) -> Few
         ensures { few_of result ≡ apart self.wires self.before wire }
     {
+        // As `defined`, with the signs turned.
         let a = self.rail0(wire);
         Few::Two(Literal::Minus(a), Literal::Minus(a + 1))
     }
@@ -51,8 +52,9 @@ impl Frame {
 }
 
 // The clause at place j of a = t; of a = b; of a = b or c; of a = b and c; of a = (b and c) or (e and f). Only the one that is
-// asked for is made.
+// asked for is made. `either` and `both` differ in their signs alone; each is written out, so that a clause can be read as it stands.
 
+// t is the value that the variable a has.
 fn fixed(a: u16, t: bool, j: usize) -> Option<Few>
     ensures { option_map few_of result ≡ slice_get (fixed_clauses a t) j }
 {
