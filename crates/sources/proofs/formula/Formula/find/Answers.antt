@@ -1,9 +1,8 @@
-use Rattle.std.proofs.Common.{ℕ, ◌+◌, ◌*◌, leb, ap, ◌∙◌, arith, rules}
+use Rattle.std.proofs.Common.{◌+◌, ◌*◌, leb, arith, rules}
 use Rattle.std.proofs.lemmas.List.Sorted.{IsPartitionPoint-from_clause}
 use Rattle.formulas.specs.Kinds.{starts}
 use Rattle.wireclauses.specs.Sizes.{register_size}
 use Rattle.sources.specs.declared.rows.Before.{Before}
-use Rattle.sources.specs.Rows.{CountsBefore}
 use Rattle.sources.specs.Places.{place}
 use Rattle.sources.specs.Meaning.{gates_of}
 use Rattle.sources.proofs.Searches.{parted, found, place_same, place_up}
@@ -15,7 +14,7 @@ returns c =
     let gs = gates_of f in
     let size = register_size (starts f.kind) c.args.i in
     let read = λ (b : Before). b.plain + c.register_size-c.result * b.registers in
-    let same = λ (w : ℕ) (b : Before) (h : CountsBefore gs w b). place_same gs c.register_size-c.result w b h ∙ ap (λ x. place gs x w) c.register_size-c.ensures.is in
+    let same = place_same gs c.register_size-c.result size c.register_size-c.ensures.is in
     let up = place_up gs size in
     let parts = parted gs f.before read (place gs size) f.counted (omega arith) same up _ c.args.k c.behind.ensures in
     let point = IsPartitionPoint-from_clause (λ b. leb (read b) c.args.k) _ _ c.partition_point.ensures.partitioned parts (λ a r q k. search rules) in
