@@ -56,20 +56,18 @@ module _ (starts : Bool) (gs : List Gate) where
   nth_frames n i k = nth_blocks (frame_clauses starts gs) (frame_place starts gs) refl frame_more n i k
 
   -- the code's way to a wire
-  wire_here : (n i k c w at : ℕ) (g : Gate) (o : Option Clause) → c ≡ register_size starts i → w < length gs → place gs c w ≤ k → k < place gs c (w + 1) → drive g ≡ driver gs w → at ≡ place gs c w → n ≡ length gs → o ≡ slice_get (apart n i w ∷ driven starts n i w (drive g)) (k - at) → o ≡ slice_get (frame_clauses starts gs i) k
-  wire_here n i k c w at g o e l a b who m z said =
-      let here : at ≡ place gs (register_size starts i) w = m ∙ ap (λ x. place gs x w) e in
-      let low = subst (λ x. place gs x w ≤ k) e a in
-      let high = subst (λ x. k < place gs x (suc w)) e (subst (λ x. k < place gs c x) (add-one w) b) in
+  wire_here : (n i k w at : ℕ) (g : Gate) (o : Option Clause) → w < length gs → place gs (register_size starts i) w ≤ k → k < place gs (register_size starts i) (w + 1) → drive g ≡ driver gs w → at ≡ place gs (register_size starts i) w → n ≡ length gs → o ≡ slice_get (apart n i w ∷ driven starts n i w (drive g)) (k - at) → o ≡ slice_get (frame_clauses starts gs i) k
+  wire_here n i k w at g o l low b who here z said =
+      let high = subst (λ x. k < place gs (register_size starts i) x) (add-one w) b in
       said
       ∙ (ap (λ x. slice_get (apart x i w ∷ driven starts x i w (drive g)) (k - at)) z
       ∙ (ap (λ x. slice_get (apart (length gs) i w ∷ driven starts (length gs) i w (drive g)) (k - x)) here
       ∙ (ap (λ x. slice_get (apart (length gs) i w ∷ driven starts (length gs) i w x) (k - place gs (register_size starts i) w)) who
       ∙ sym (nth_blocks (block starts gs i) (place gs (register_size starts i)) (place_none starts gs i) (place_more starts gs i) (length gs) w k l low high))))
 
-  pub turn_wire : (n i k c w at : ℕ) (g : Gate) (o : Option Clause) (b : Bool) (j : ℕ) → b ≡ starts → j ≡ i → c ≡ register_size starts i → w < length gs → place gs c w ≤ k → k < place gs c (w + 1) → drive g ≡ driver gs w → at ≡ place gs c w → n ≡ length gs → o ≡ slice_get (apart n j w ∷ driven b n j w (drive g)) (k - at) → o ≡ slice_get (frame_clauses starts gs i) k
-  turn_wire n i k c w at g o b j bs ji e l low high who m z said =
-      wire_here n i k c w at g o e l low high who m z
+  pub turn_wire : (n i k w at : ℕ) (g : Gate) (o : Option Clause) (b : Bool) (j : ℕ) → b ≡ starts → j ≡ i → w < length gs → place gs (register_size starts i) w ≤ k → k < place gs (register_size starts i) (w + 1) → drive g ≡ driver gs w → at ≡ place gs (register_size starts i) w → n ≡ length gs → o ≡ slice_get (apart n j w ∷ driven b n j w (drive g)) (k - at) → o ≡ slice_get (frame_clauses starts gs i) k
+  turn_wire n i k w at g o b j bs ji l low high who m z said =
+      wire_here n i k w at g o l low high who m z
       (said ∙ (ap (λ y. slice_get (apart n j w ∷ driven y n j w (drive g)) (k - at)) bs ∙ ap (λ y. slice_get (apart n y w ∷ driven starts n y w (drive g)) (k - at)) ji))
 
   -- the code's two ways to a frame
@@ -117,8 +115,8 @@ module _ (starts : Bool) (gs : List Gate) where
   size_is (suc n) first later f g h = (let e : suc n - 1 ≡ n = omega arith in ap (λ x. first + x * later) e) ∙ cc (f, g)
 
 -- at the last wire
-pub at_end : (gs : List Gate) (c c' m f : ℕ) → c ≡ c' → m ≡ length gs → f ≡ place gs c m → f ≡ place gs c' (length gs)
-at_end gs c c' m f e z h = h ∙ (ap (λ x. place gs x m) e ∙ ap (place gs c') z)
+pub at_end : (gs : List Gate) (c m f : ℕ) → m ≡ length gs → f ≡ place gs c m → f ≡ place gs c (length gs)
+at_end gs c m f z h = h ∙ ap (place gs c) z
 
 -- what the code requires of its second way
 pub frame_in : (starts : Bool) (gs : List Gate) (n k first later : ℕ) → 0 < length gs → first ≡ place gs (register_size starts 0) (length gs) → later ≡ place gs 4 (length gs) → first ≤ k → n ≤ 9 → k < frame_place starts gs n → (1 + (k - first) / later ≤ 8) × ((k - first) % later < place gs (register_size starts (1 + (k - first) / later)) (length gs))

@@ -64,8 +64,8 @@ module _ (gs : List Gate) (row : List Before) (f : Before → ℕ) (g : ℕ → 
       (at.1, omega (arith, past, behind_is r d within), within)
 
 -- what is read for the clauses, and for the registers
-pub place_same : (gs : List Gate) (c w : ℕ) (b : Before) → CountsBefore gs w b → b.plain + c * b.registers ≡ place gs c w
-place_same gs c w b h = let p = h.0 in let r = h.1 in cc (p, r)
+pub place_same : (gs : List Gate) (c size : ℕ) → c ≡ size → (w : ℕ) (b : Before) → CountsBefore gs w b → b.plain + c * b.registers ≡ place gs size w
+place_same gs c size e w b h = let p = h.0 in let r = h.1 in cc (e, p, r)
 
 pub place_up : (gs : List Gate) (c w v : ℕ) → w ≤ v → place gs c w ≤ place gs c v
 place_up gs c w v h = let r = mul-le-mul_left c (registers_up gs w v h) in omega (arith, plain_up gs w v h, r)

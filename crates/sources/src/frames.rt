@@ -34,31 +34,30 @@ impl Formula {
         }
     }
 
-    /// How many clauses stand before wire w in a frame in which a register has c.
-    fn place(&self, c: usize, w: usize) -> usize
-        requires size { c ≤ 4 }
-        requires within { w ≤ length (gates_of self.now) }
-        ensures is { result ≡ place_of (gates_of self.now) c w }
+    /// How many clauses stand before wire w in the frame with i before it.
+    fn place(&self, i: usize, w: usize) -> usize
+        requires { w ≤ length (gates_of self.now) }
+        ensures is { result ≡ place_of (gates_of self.now) (register_size_of (starts self.now.kind) i) w }
         ensures small { result ≤ 400000 }
     {
-        self.before[w].clauses(c)
+        self.before[w].clauses(register_size(self.kind, i))
     }
 
     /// For each wire, what stands before the next.
     fn behind(&self) -> &[Before]
         ensures { result.now ≡ slice_range self.now.before 1 (length (gates_of self.now) + 1) }
     {
-        &self.before[1..self.board.wires() + 1]
+        &self.before[1..=self.board.wires()]
     }
 
-    /// The wire to which the clause at place k of such a frame belongs.
-    fn find(&self, c: usize, k: usize) -> usize
-        requires size { c ≤ 4 }
-        requires within { k < place_of (gates_of self.now) c (length (gates_of self.now)) }
-        ensures low { place_of (gates_of self.now) c result ≤ k }
-        ensures high { k < place_of (gates_of self.now) c (result + 1) }
+    /// The wire to which the clause at place k of that frame belongs.
+    fn find(&self, i: usize, k: usize) -> usize
+        requires { k < place_of (gates_of self.now) (register_size_of (starts self.now.kind) i) (length (gates_of self.now)) }
+        ensures low { place_of (gates_of self.now) (register_size_of (starts self.now.kind) i) result ≤ k }
+        ensures high { k < place_of (gates_of self.now) (register_size_of (starts self.now.kind) i) (result + 1) }
         ensures within { result < length (gates_of self.now) }
     {
+        let c = register_size(self.kind, i);
         self.behind()
             .partition_point(|before| before.clauses(c) <= k)
     }
@@ -89,10 +88,9 @@ impl Formula {
         ensures { option_map few_of result ≡ slice_get (frame_clauses (starts self.now.kind) (gates_of self.now) i) k }
     {
         let frame = self.outline().frame(i);
-        let c = register_size(self.kind, i);
-        let w = self.find(c, k);
+        let w = self.find(i, k);
         let gate = self.board.gates()[w];
-        wire_clause(frame, w as u8, gate, k - self.place(c, w))
+        wire_clause(frame, w as u8, gate, k - self.place(i, w))
     }
 
     /// How many clauses the frames have.
@@ -101,8 +99,8 @@ impl Formula {
         ensures small { result ≤ 4000000 }
     {
         let outline = self.outline();
-        let first = self.place(register_size(self.kind, 0), outline.wires);
-        first + (outline.frames() - 1) * self.place(4, outline.wires)
+        let first = self.place(0, outline.wires);
+        first + (outline.frames() - 1) * self.place(1, outline.wires)
     }
 
     /// The clause at place k of the frames.
@@ -111,11 +109,11 @@ impl Formula {
         ensures { option_map few_of result ≡ slice_get (across (frames_of self.now.kind (depth_of self.now)) (frame_clauses (starts self.now.kind) (gates_of self.now))) k }
     {
         let outline = self.outline();
-        let first = self.place(register_size(self.kind, 0), outline.wires);
+        let first = self.place(0, outline.wires);
         if k < first {
             return self.in_frame(0, k);
         }
-        let later = self.place(4, outline.wires);
+        let later = self.place(1, outline.wires);
         let rest = k - first;
         self.in_frame(1 + rest / later, rest % later)
     }

@@ -32,6 +32,7 @@ pub(crate) fn row(gates: &[Gate]) -> [Before; 257]
         registers: 0,
     };
     let mut row = [before; 257];
+    // By index: behind a zip with `iter_mut` nothing is known of what the row holds.
     'wires: for (w, gate) in gates.iter().enumerate() {
         before.plain += plain_size(*gate);
         before.registers += u16::from(gate.is_register());

@@ -30,6 +30,7 @@ impl From<Literal> for i32 {
     }
 }
 
+// By match: an array of literals would need its length beside it.
 impl Few {
     /// How many literals there are.
     pub fn count(self) -> usize

@@ -77,6 +77,7 @@ pub(crate) fn gate_drive(gate: Gate) -> Drive
 /// How many clauses the equation of a rail with this right side has.
 pub(crate) fn right_size(right: Right) -> usize
     ensures is { result ≡ right_size (right_of right) }
+    ensures small { result ≤ 6 }
     ensures counts { (x : SpecRail ℕ → ℕ) (a : ℕ) → result ≡ length (equation x a (right_of right)) }
 {
     match right {
@@ -93,13 +94,10 @@ pub fn plain_size(gate: Gate) -> u16
     ensures small { result ≤ 13 }
     ensures counts { (starts : Bool) (n i w : ℕ) → length (apart n i w ∷ driven starts n i w (spec_drive gate)) ≡ result + register_size starts i * one_if (spec_drive gate) }
 {
-    match gate {
-        Gate::Register(_) => 0,
-        Gate::Input => 2,
-        Gate::Zero | Gate::One => 3,
-        Gate::Copy(_) | Gate::Not(_) => 5,
-        Gate::And(_, _) | Gate::Or(_, _) | Gate::Implies(_, _) => 7,
-        Gate::Xor(_, _) => 13,
+    match gate_drive(gate) {
+        Drive::Input => 2,
+        Drive::Register(_) => 0,
+        Drive::Settled(r, s) => (1 + right_size(r) + right_size(s)) as u16,
     }
 }
 

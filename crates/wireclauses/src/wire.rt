@@ -37,6 +37,7 @@ impl Frame {
     pub fn apart(self, wire: u8) -> Few
         ensures { few_of result ≡ apart self.wires self.before wire }
     {
+        // As `defined`, with the signs turned.
         let a = self.rail0(wire);
         Few::Two(Literal::Minus(a), Literal::Minus(a + 1))
     }
@@ -51,8 +52,9 @@ impl Frame {
 }
 
 // The clause at place j of a = t; of a = b; of a = b or c; of a = b and c; of a = (b and c) or (e and f). Only the one that is
-// asked for is made.
+// asked for is made. `either` and `both` differ in their signs alone; each is written out, so that a clause can be read as it stands.
 
+// t is the value that the variable a has.
 fn fixed(a: u16, t: bool, j: usize) -> Option<Few>
     ensures { option_map few_of result ≡ slice_get (fixed_clauses a t) j }
 {
@@ -112,70 +114,65 @@ fn two_boths(a: u16, b: u16, c: u16, e: u16, f: u16, j: usize) -> Option<Few>
     }
 }
 
-/// The clause at place j of the equation of the variable a with a right side.
-fn equation(frame: Frame, a: u16, right: Right, j: usize) -> Option<Few>
-    ensures { option_map few_of result ≡ slice_get (equation_of (rail_var frame.wires frame.before) a (right_of right)) j }
-{
-    match right {
-        Right::Fixed(t) => fixed(a, t, j),
-        Right::Same(b) => same(a, frame.rail(b), j),
-        Right::Either(b, c) => either(a, frame.rail(b), frame.rail(c), j),
-        Right::Both(b, c) => both(a, frame.rail(b), frame.rail(c), j),
-        Right::TwoBoths(b, c, e, f) => {
-            two_boths(
-                a,
-                frame.rail(b),
-                frame.rail(c),
-                frame.rail(e),
-                frame.rail(f),
-                j,
-            )
+impl Frame {
+    /// The clause at place j of the equation of the variable a with a right side.
+    fn equation(self, a: u16, right: Right, j: usize) -> Option<Few>
+        ensures { option_map few_of result ≡ slice_get (equation_of (rail_var self.wires self.before) a (right_of right)) j }
+    {
+        match right {
+            Right::Fixed(t) => fixed(a, t, j),
+            Right::Same(b) => same(a, self.rail(b), j),
+            Right::Either(b, c) => either(a, self.rail(b), self.rail(c), j),
+            Right::Both(b, c) => both(a, self.rail(b), self.rail(c), j),
+            Right::TwoBoths(b, c, e, f) => {
+                two_boths(a, self.rail(b), self.rail(c), self.rail(e), self.rail(f), j)
+            }
         }
     }
-}
 
-/// The clause at place j of what a register starts with, or takes over from its source y in the frame before.
-fn held(frame: Frame, w: u8, y: u8, j: usize) -> Option<Few>
-    ensures { option_map few_of result ≡ slice_get (held_of (starts frame.kind) frame.wires frame.before w y) j }
-{
-    let a = frame.rail0(w);
-    if frame.before > 0 {
-        let earlier = Frame {
-            kind: frame.kind,
-            wires: frame.wires,
-            before: frame.before - 1,
-        };
-        return same(a, earlier.rail0(y), j);
+    /// The clause at place j of what a register starts with, or takes over from its source y in the frame before.
+    fn held(self, w: u8, y: u8, j: usize) -> Option<Few>
+        ensures { option_map few_of result ≡ slice_get (held_of (starts self.kind) self.wires self.before w y) j }
+    {
+        let a = self.rail0(w);
+        if self.before > 0 {
+            let earlier = Frame {
+                kind: self.kind,
+                wires: self.wires,
+                before: self.before - 1,
+            };
+            return same(a, earlier.rail0(y), j);
+        }
+        match self.kind {
+            FormulaKind::Base => fixed(a, true, j),
+            FormulaKind::Step => None,
+        }
     }
-    match frame.kind {
-        FormulaKind::Base => fixed(a, true, j),
-        FormulaKind::Step => None,
-    }
-}
 
-/// The clause at place j of the equations of the two rails of wire w.
-fn settled(frame: Frame, w: u8, r: Right, s: Right, j: usize) -> Option<Few>
-    ensures { let x = rail_var frame.wires frame.before in
-        option_map few_of result ≡ slice_get (equation_of x (x (rail_a w)) (right_of r) ++ equation_of x (x (rail_b w)) (right_of s)) j }
-{
-    let a = frame.rail0(w);
-    let size = right_size(r);
-    if j < size {
-        equation(frame, a, r, j)
-    } else {
-        equation(frame, a + 1, s, j - size)
+    /// The clause at place j of the equations of the two rails of wire w.
+    fn settled(self, w: u8, r: Right, s: Right, j: usize) -> Option<Few>
+        ensures { let x = rail_var self.wires self.before in
+            option_map few_of result ≡ slice_get (equation_of x (x (rail_a w)) (right_of r) ++ equation_of x (x (rail_b w)) (right_of s)) j }
+    {
+        let a = self.rail0(w);
+        let size = right_size(r);
+        if j < size {
+            self.equation(a, r, j)
+        } else {
+            self.equation(a + 1, s, j - size)
+        }
     }
-}
 
-/// The clause at place j of what drives wire w.
-fn driven(frame: Frame, w: u8, by: Drive, j: usize) -> Option<Few>
-    ensures { option_map few_of result ≡ slice_get (driven_of (starts frame.kind) frame.wires frame.before w (drive_of by)) j }
-{
-    match by {
-        Drive::Settled(r, s) => settled(frame, w, r, s, j),
-        Drive::Input if j > 0 => None,
-        Drive::Register(y) if j > 0 => held(frame, w, y, j - 1),
-        Drive::Input | Drive::Register(_) => Some(frame.defined(w)),
+    /// The clause at place j of what drives wire w.
+    fn driven(self, w: u8, by: Drive, j: usize) -> Option<Few>
+        ensures { option_map few_of result ≡ slice_get (driven_of (starts self.kind) self.wires self.before w (drive_of by)) j }
+    {
+        match by {
+            Drive::Settled(r, s) => self.settled(w, r, s, j),
+            Drive::Input if j > 0 => None,
+            Drive::Register(y) if j > 0 => self.held(w, y, j - 1),
+            Drive::Input | Drive::Register(_) => Some(self.defined(w)),
+        }
     }
 }
 
@@ -184,7 +181,7 @@ pub fn wire_clause(frame: Frame, w: u8, gate: Gate, j: usize) -> Option<Few>
     ensures { option_map few_of result ≡ slice_get (apart frame.wires frame.before w ∷ driven_of (starts frame.kind) frame.wires frame.before w (spec_drive gate)) j }
 {
     if j > 0 {
-        driven(frame, w, gate_drive(gate), j - 1)
+        frame.driven(w, gate_drive(gate), j - 1)
     } else {
         Some(frame.apart(w))
     }

@@ -9,5 +9,5 @@ pub returns : goal.returns
 returns c =
     let o = c.outline.ensures in
     let f = c.frame-frame.ensures in
-    turn_wire _ _ _ _ _ _ _ _ _ _ _ _ (ap starts (f.kind ∙ o.kind)) f.before c.register_size-c.ensures.is c.find-w.ensures.within c.find-w.ensures.low c.find-w.ensures.high
+    turn_wire _ _ _ _ _ _ _ _ _ _ _ (ap starts (f.kind ∙ o.kind)) f.before c.find-w.ensures.within c.find-w.ensures.low c.find-w.ensures.high
     (ap (λ gs. drive (get_or gs c.find-w.result Input)) c.gates.ensures) c.place.ensures.is (f.wires ∙ o.wires) c.wire_clause.ensures
