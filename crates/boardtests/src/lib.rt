@@ -1,4 +1,4 @@
-//! Edges of records, boards, gate files and frames, as tables of examples.
+//! Edges of records, boards, gate files, frames and runs, as tables of examples.
 
 #![tactic(auto)]
 
@@ -10,6 +10,9 @@ mod tests {
     use gates::Gate;
     use gates::records::read_record;
     use refusals::{Failure, Refusal};
+    use runs::Verdict;
+    use runs::rows::read_rows;
+    use runs::tracing::trace;
     use std::alloc::Global;
     use std::test::Fail;
     use values::{Lanes, Value};
@@ -187,6 +190,22 @@ mod tests {
         );
         find_frame(&toggle, &[], Some(&first), &mut second)?;
         assert!(rt; second == [Value::One, Value::Zero]);
+        Ok(())
+    }
+
+    // Both inputs of the ring at 1 leave wire 3 undefined; with one of them at 0 the frame is good.
+    #[test]
+    fn rows_are_read_and_run(rt: HostRuntime) -> Result<(), Fail> {
+        let heap = rt.alloc();
+        let board = board_of(heap, &RING)?;
+        let rows = read_rows(heap, &board, &[1, 0, 1, 1])?;
+        assert_eq!(rt; rows.len(), 2);
+        assert!(rt; rows[0].as_slice() == [Value::One, Value::Zero].as_slice());
+        let found = trace(heap, &board, &[1, 0, 1, 1, 0, 0])?;
+        assert_eq!(rt; found.frames.len(), 2);
+        assert_eq!(rt; found.verdict, Verdict::Bad { frame: 2, wire: 3 });
+        let good = trace(heap, &board, &[1, 0])?;
+        assert_eq!(rt; good.verdict, Verdict::Good { frames: 1 });
         Ok(())
     }
 

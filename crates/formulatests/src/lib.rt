@@ -64,10 +64,7 @@ mod tests {
         let formula = formula_of(rt.alloc(), &CONSTANT, FormulaKind::Base)?;
         assert!(rt; dimacs_length(&formula) == 50);
         let mut short = [7u8; 49];
-        assert_eq!(rt;
-            write_dimacs(&formula, &mut short),
-            Err(Refusal::Buffer)
-        );
+        assert_eq!(rt; write_dimacs(&formula, &mut short), Err(Refusal::Buffer));
         assert!(rt; short == [7u8; 49]);
         let mut exact = [7u8; 50];
         assert_eq!(rt; write_dimacs(&formula, &mut exact), Ok(50));

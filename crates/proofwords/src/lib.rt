@@ -1,4 +1,4 @@
-//! The words of a proof text: the byte, the number or the literal at a place of the text.
+//! The words of a proof text: the byte, the number or the literal that it begins with.
 
 #![tactic(auto)]
 
