@@ -1,5 +1,5 @@
 -- Rows of w elements each, one after the other.
-use Rattle.std.proofs.Common.{◌≡◌, ℕ, zero, suc, ◌+◌, ◌*◌, ◌%◌, ◌<◌, ◌≤◌, List, [], ◌∷◌, ◌++◌, map, length, sym, refl, ap, ◌∙◌, mul-le-mul_right, suc-mul, zero-mul, arith}
+use Rattle.std.proofs.Common.{◌≡◌, ℕ, ◌*◌, ◌%◌, List, [], ◌∷◌, ◌++◌, map, length, sym, refl, ap, ◌∙◌, suc-mul, zero-mul, arith}
 use Rattle.std.specs.List.{flat_map, AllByRecursion as AllOf}
 use Rattle.std.proofs.Math.Nat.{mul-mod_left}
 use Rattle.std.proofs.lemmas.List.{length-append, length-map, map-append}
@@ -7,9 +7,6 @@ use Rattle.std.proofs.lemmas.List.{length-append, length-map, map-append}
 -- where a length is no multiple of the width, no rows have it
 pub no_multiple : (w size : ℕ) → (size % w ≡ 0 → ⊥) → (c : ℕ) → size ≡ c * w → ⊥
 no_multiple w size odd c e = odd (ap (λ n. n % w) e ∙ mul-mod_left c w)
-
-pub row_fits : (k c w : ℕ) → k < c → k * w + w ≤ c * w
-row_fits k c w h = omega (arith, mul-le-mul_right w h, suc-mul k w)
 
 module _ {X Y : Type 0} (w : ℕ) (f : X → Y) where
   pub length_joined : (rows : List (List X)) → AllOf (λ row. length row ≡ w) rows → length (flat_map (map f) rows) ≡ length rows * w

@@ -1,6 +1,6 @@
 -- Bytes as rows of inputs.
-use Rattle.std.proofs.Common.{◌≡◌, ℕ, ◌+◌, ◌*◌, ◌<◌, ◌≤◌, Bool, false, List, [], ◌∷◌, ◌++◌, map, length, get_or, take, drop, sym, refl, ap, ◌∙◌, append_assoc, arith, suc, ◌⊎◌, ⊎_elim, subst, Ok, Err, Result, MatchResult, IfOk, IfErr}
-use Rattle.std.specs.List.{flat_map, AllByRecursion as AllOf}
+use Rattle.std.proofs.Common.{◌≡◌, ℕ, ◌+◌, ◌*◌, ◌<◌, ◌≤◌, Bool, false, List, [], ◌∷◌, ◌++◌, map, length, get_or, take, drop, sym, refl, ap, ◌∙◌, append_assoc, mul-le-mul_right, suc-mul, arith, suc, ◌⊎◌, ⊎_elim, subst, Ok, Err, Result, MatchResult, IfOk, IfErr}
+use Rattle.std.specs.List.{flat_map}
 use Rattle.std.proofs.ByRecursion.{All-push}
 use Rattle.std.proofs.lemmas.List.{take_at, take-map, drop_at, drop-map, append-nil, length-append, length-map, map-append, get_or-map, flat_map_more, nil_from_length}
 use Rattle.refusals.specs.declared.Failure.{Failure}
@@ -11,7 +11,7 @@ use Rattle.gates.specs.declared.gate.Gate.{Gate}
 use Rattle.solutions.specs.Runs.{bit, input_count, Run}
 use Rattle.runs.specs.Rows.{byte, Rows}
 use Rattle.runs.specs.Inputs.{IsRead, IsUnread, NotRead, Bits, ValuesOf, RowsRead, Counts}
-use Rattle.runs.proofs.Cutting.{row_fits, length_joined, map_joined}
+use Rattle.runs.proofs.Cutting.{length_joined, map_joined}
 
 -- where each byte is read, they are bits, and the values are theirs
 pub values_read : (bytes : List ℕ) (values : List Value) → length values ≡ length bytes → ((k : ℕ) → k < length bytes → IsRead (get_or bytes k 0) (get_or values k Undefined))
@@ -80,7 +80,7 @@ module _ (gs : List Gate) (bytes rest : List ℕ) (values : List (List Value)) (
 
   -- there are bytes for one more row
   pub row_left : (count : ℕ) → length bytes ≡ count * input_count gs → k < count → input_count gs ≤ length rest
-  row_left count size l = omega (arith, left, row_fits k count (input_count gs) l)
+  row_left count size l = omega (arith, left, mul-le-mul_right (input_count gs) l, suc-mul k (input_count gs))
 
   pub no_rows_part : (d : ℕ) (row more : List ℕ) → rest ≡ row ++ more → ((bits : List Bool) → Bits row bits → ⊥) → (rows : List (List Bool)) → Rows gs d bytes rows → ⊥
   no_rows_part d row more split never rows h =
