@@ -3,13 +3,13 @@ use Rattle.std.proofs.Common.{◌≡◌, ℕ, zero, suc, ◌+◌, ◌<◌, ◌�
 use mathlib.Core.Path.{fun_ext}
 use Rattle.std.specs.List.{AllByRecursion as AllOf}
 use Rattle.std.specs.Map.{update}
-use Rattle.std.proofs.lemmas.Option.{slice_get_past}
+use Rattle.std.proofs.lemmas.Option.{none-some, slice_get_past}
 use Rattle.std.proofs.lemmas.Bool.{both_ways, and_parts, and_from, and_right, leb-true, le-leb, lt-leb, eqb-true, ltb-false, leb-false, and_cases}
 use Rattle.clauses.specs.Clauses.{Clause, numbered}
 use Rattle.refuting.specs.Judging.{Terms, known}
 use Rattle.shelf.specs.Lines.{Lines, Costs, find, insert, remove, total, affords, keeps}
 use Rattle.shelf.specs.Premises.{of_formula, premises}
-use Rattle.shelf.proofs.Lines.{none_some, swapped, map_insert, map_remove, total_insert}
+use Rattle.shelf.proofs.Lines.{swapped, map_insert, map_remove, total_insert}
 
 -- ---- what all lines have
 
@@ -32,7 +32,7 @@ module _ (P : ℕ × Clause → Type 0) where
 
 -- a line that is found has what all have of their literals
 pub found : (P : Clause → Type 0) (xs : Lines) → AllOf (λ x. P x.1) xs → (k : ℕ) (c : Clause) → find xs k ≡ Some c → P c
-found P [] all k c e = absurd (none_some c e)
+found P [] all k c e = absurd (none-some c e)
 found P (x ∷ xs) all k c e = go (eqb k x.0) e (found P xs all.1 k c)
   where
     go : (b : Bool) → cond b (Some x.1) (find xs k) ≡ Some c → (find xs k ≡ Some c → P c) → P c
@@ -52,7 +52,7 @@ find_above n (x ∷ xs) all = go (eqb n x.0) refl (find_above n xs all.1)
 
 not_some : (o : Option Clause) → o ≡ None → not (is_some o) ≡ true
 not_some None e = refl
-not_some (Some c) e = absurd (none_some c (sym e))
+not_some (Some c) e = absurd (none-some c (sym e))
 
 is_none : (o : Option Clause) → not (is_some o) ≡ true → o ≡ None
 is_none None e = refl
@@ -64,7 +64,7 @@ affordable capacity used (Some k) h room = le-leb (used + k) capacity (omega ari
 
 afforded : (capacity used : ℕ) (o : Option ℕ) → affords capacity used o ≡ true → (o ≢ None) × (unwrap_or o 0 + used ≤ capacity)
 afforded capacity used None e = absurd (both_ways false refl e)
-afforded capacity used (Some k) e = let room = leb-true (used + k) capacity e in (λ q. none_some k (sym q), omega arith)
+afforded capacity used (Some k) e = let room = leb-true (used + k) capacity e in (λ q. none-some k (sym q), omega arith)
 
 module _ (capacity : ℕ) (cost : Costs) (xs : Lines) (n : ℕ) (c : Clause) where
   pub keeps_true : find xs n ≡ None → cost (length c) ≢ None → total cost (insert n c xs) ≤ capacity → keeps capacity cost xs n c ≡ true

@@ -1,5 +1,5 @@
 -- How long the clauses of a formula are, and its text.
-use Rattle.std.proofs.Common.{◌≡◌, ℕ, zero, suc, ◌+◌, ◌*◌, ◌≤◌, Bool, true, false, List, [], ◌∷◌, ◌++◌, length, ℤ, pos, negsuc, codes, refl, ◌∙◌, arith, length-append, ◌<◌, ◌^◌}
+use Rattle.std.proofs.Common.{◌≡◌, ℕ, zero, suc, ◌+◌, ◌*◌, ◌≤◌, Bool, true, false, List, [], ◌∷◌, ◌++◌, length, ℤ, pos, negsuc, codes, refl, ◌∙◌, mul-le-mul, arith, length-append, ◌<◌, ◌^◌}
 use Rattle.std.specs.List.{AllByRecursion as AllOf}
 use Rattle.std.specs.List.{flat_map}
 use Rattle.std.proofs.ByRecursion.{All-append}
@@ -11,7 +11,6 @@ use Rattle.boards.specs.Sheets.{sheet}
 use Rattle.clauses.specs.Clauses.{Clause, variable, Over, plus, minus, across}
 use Rattle.clauses.proofs.Across.{all_across}
 use Rattle.clauses.proofs.Blocks.{length_uniform}
-use Rattle.wireclauses.proofs.Wires.{bounded}
 use Rattle.formulas.specs.Drives.{Drive, input, register, settled, driver}
 use Rattle.formulas.specs.Formulas.{rail_var, base_mark, step_mark, difference_mark, equation, apart, defined, held, driven, frame_clauses, mark_clauses, base_frames, base_marks, base_bad, base, step_frames, good_frame, step_good, step_bad, on_register, differs, pair_clauses, step_pairs, step}
 use Rattle.sources.specs.declared.formula.Formula.{Formula}
@@ -133,7 +132,7 @@ all_short Base f =
     let gs = (sheet f.board).gates in
     let d = (sheet f.board).depth in
     base_short 2056 (omega arith) gs (sheet f.board).property d
-    (omega (arith, bounded d (length gs) 8 256 f.board.shallow (board_few f.board), f.board.shallow))
+    (omega (arith, mul-le-mul f.board.shallow (board_few f.board), f.board.shallow))
 all_short Step f =
     let gs = (sheet f.board).gates in
     step_short 2056 (omega arith) gs (sheet f.board).property (sheet f.board).depth (omega (arith, board_few f.board))

@@ -1,10 +1,8 @@
 -- Pairs of frames are counted by their later one.
 use Rattle.std.proofs.Common.{◌≡◌, ℕ, zero, suc, ◌+◌, ◌-◌, ◌*◌, ◌/◌, ◌<◌, ◌≤◌, sym, refl, ap, ◌∙◌, subst, ⊎_elim, arith}
+use Rattle.std.proofs.Math.Nat.{add-mul-div_left}
 use Rattle.std.proofs.lemmas.Bool.{cases_lt}
 use Rattle.formulas.specs.Formulas.{pairs_before}
-
-half : (x y : ℕ) → (x + 2 * y) / 2 ≡ x / 2 + y
-half x y = omega arith
 
 -- frame j is the later one of j pairs
 pub pairs_more : (j : ℕ) → pairs_before (suc j) ≡ pairs_before j + j
@@ -13,7 +11,7 @@ pairs_more (suc k) =
     let e : suc (suc k) - 1 ≡ suc k = omega arith in
     let g : suc k - 1 ≡ k = omega arith in
     let m : suc (suc k) * suc k ≡ suc k * k + 2 * suc k = omega arith in
-    ap (λ x. suc (suc k) * x / 2) e ∙ ap (λ x. x / 2) m ∙ half (suc k * k) (suc k) ∙ ap (λ x. suc k * x / 2 + suc k) (sym g)
+    ap (λ x. suc (suc k) * x / 2) e ∙ ap (λ x. x / 2) m ∙ add-mul-div_left (suc k * k) (suc k) (omega arith) ∙ ap (λ x. suc k * x / 2 + suc k) (sym g)
 
 pub pairs_up : (j d : ℕ) → j ≤ d → pairs_before j ≤ pairs_before d
 pairs_up j zero l = let e : j ≡ 0 = omega arith in subst (λ k. pairs_before k ≤ pairs_before 0) (sym e) (omega arith)

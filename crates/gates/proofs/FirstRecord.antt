@@ -1,7 +1,7 @@
 -- The first record of a list of bytes.
-use Rattle.std.proofs.Common.{◌≡◌, ℕ, zero, suc, ◌+◌, ◌-◌, ◌<◌, Bool, true, false, cond, ◌&&◌, ltb, ◌≢◌, List, [], ◌∷◌, ◌++◌, length, get_or, take, drop, Some, None, Option, sym, refl, ap, ◌∙◌, ⊎_elim, arith}
-use Rattle.std.proofs.lemmas.List.{take_rest, append-nil}
-use Rattle.std.proofs.lemmas.Bool.{lt-ltb, cases_Bool, ltb-true, and_parts}
+use Rattle.std.proofs.Common.{◌≡◌, ℕ, zero, suc, ◌+◌, ◌<◌, Bool, true, false, cond, ◌&&◌, ltb, List, [], ◌∷◌, ◌++◌, length, get_or, drop, Some, None, Option, sym, refl, ap, ◌∙◌, ⊎_elim, drop-cons, arith}
+use Rattle.std.proofs.lemmas.List.{append-nil}
+use Rattle.std.proofs.lemmas.Bool.{cases_Bool, ltb-true, and_parts}
 use Rattle.std.proofs.lemmas.Bool.Decides.{nat_tests}
 use Rattle.gates.specs.declared.gate.Gate.{Gate}
 use Rattle.gates.specs.declared.gate.Gate.TheVariants.{Input, Zero, One, Copy, Not, And, Or, Implies, Xor, Register}
@@ -20,27 +20,21 @@ first_of (Implies y z) t = grind (arith, nat_tests)
 first_of (Xor y z) t = grind (arith, nat_tests)
 first_of (Register y) t = grind (arith, nat_tests)
 
-one_more : (t : List ℕ) → 1 < suc (length t) → t ≡ get_or t 0 0 ∷ drop 1 t
-one_more [] l = absurd (omega arith)
-one_more (x ∷ t) l = refl
-
 two_more : (t : List ℕ) → 2 < suc (length t) → t ≡ get_or t 0 0 ∷ get_or t 1 0 ∷ drop 2 t
-two_more [] l = absurd (omega arith)
-two_more (x ∷ []) l = absurd (omega arith)
-two_more (x ∷ y ∷ t) l = refl
+two_more t l = drop-cons t 0 0 (omega arith) ∙ ap (λ xs. get_or t 0 0 ∷ xs) (drop-cons t 1 0 (omega arith))
 
 -- and the bytes begin with it.
 record_at : (k : ℕ) (t : List ℕ) → ltb k 10 ≡ true → arity k < suc (length t) → k ∷ t ≡ record_of (gate_of k (get_or (k ∷ t) 1 0) (get_or (k ∷ t) 2 0)) ++ drop (1 + arity k) (k ∷ t)
 record_at zero t h l = refl
 record_at (suc zero) t h l = refl
 record_at (suc (suc zero)) t h l = refl
-record_at (suc (suc (suc zero))) t h l = ap (λ xs. 3 ∷ xs) (one_more t l)
-record_at (suc (suc (suc (suc zero)))) t h l = ap (λ xs. 4 ∷ xs) (one_more t l)
+record_at (suc (suc (suc zero))) t h l = ap (λ xs. 3 ∷ xs) (drop-cons t 0 0 (omega arith))
+record_at (suc (suc (suc (suc zero)))) t h l = ap (λ xs. 4 ∷ xs) (drop-cons t 0 0 (omega arith))
 record_at (suc (suc (suc (suc (suc zero))))) t h l = ap (λ xs. 5 ∷ xs) (two_more t l)
 record_at (suc (suc (suc (suc (suc (suc zero)))))) t h l = ap (λ xs. 6 ∷ xs) (two_more t l)
 record_at (suc (suc (suc (suc (suc (suc (suc zero))))))) t h l = ap (λ xs. 7 ∷ xs) (two_more t l)
 record_at (suc (suc (suc (suc (suc (suc (suc (suc zero)))))))) t h l = ap (λ xs. 8 ∷ xs) (two_more t l)
-record_at (suc (suc (suc (suc (suc (suc (suc (suc (suc zero))))))))) t h l = ap (λ xs. 9 ∷ xs) (one_more t l)
+record_at (suc (suc (suc (suc (suc (suc (suc (suc (suc zero))))))))) t h l = ap (λ xs. 9 ∷ xs) (drop-cons t 0 0 (omega arith))
 record_at (suc (suc (suc (suc (suc (suc (suc (suc (suc (suc k)))))))))) t h l = absurd (omega (arith, ltb-true (suc (suc (suc (suc (suc (suc (suc (suc (suc (suc k)))))))))) 10 h))
 
 pub first_some : (bs : List ℕ) (g : Gate) (t : List ℕ) → first_record bs ≡ Some (g, t) → bs ≡ record_of g ++ t

@@ -6,6 +6,7 @@ use lib.ListN.{get_or-replicate, length-replicate}
 use Rattle.std.proofs.lemmas.List.{get_or_past}
 use Rattle.std.proofs.lemmas.Bool.{eqb-true, eqb-false, cases_lt}
 use Rattle.std.proofs.lemmas.Bool.Decides.{nat_tests}
+use Rattle.std.proofs.lemmas.Iterator.Adapters.{option_map_id}
 use Rattle.std.specs.Map.{update}
 use Rattle.std.specs.Option.{option_map}
 use Rattle.refusals.specs.declared.Refusal.TheVariants.{Literal}
@@ -31,11 +32,7 @@ set_assigns bytes (negsuc x) to b n e = simp unary_clauses (marks_set bytes x b 
 -- A literal's value is what the mark of its variable says.
 pub value_by_mark : (bytes : List ℕ) (l : ℤ) → 0 < variable l → option_map (signed l) (mark_of (get_or bytes (variable l - 1) 0)) ≡ value (marks_of bytes) l
 value_by_mark bytes (pos zero) h = absurd (omega arith)
-value_by_mark bytes (pos (suc x)) h = simp unary_clauses (as_is (mark_of (get_or bytes x 0)))
-  where
-    as_is : (o : Option Bool) → option_map (λ b. b) o ≡ o
-    as_is None = refl
-    as_is (Some b) = refl
+value_by_mark bytes (pos (suc x)) h = simp unary_clauses (option_map_id (mark_of (get_or bytes x 0)))
 value_by_mark bytes (negsuc x) h = simp unary_clauses (turned (mark_of (get_or bytes x 0)))
   where
     turned : (o : Option Bool) → option_map not o ≡ flipped o

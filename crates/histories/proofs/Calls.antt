@@ -1,6 +1,6 @@
 -- Lists of calls, and what they leave where every call keeps it.
 use Rattle.std.proofs.Common.{◌≡◌, Bool, true, false, cond, List, [], ◌∷◌, ◌++◌, Some, None, Option, sym, refl, ap, ◌∙◌, subst}
-use Rattle.shelf.proofs.Lines.{none_some}
+use Rattle.std.proofs.lemmas.Option.{none-some}
 use Rattle.histories.specs.Cases.{State, Room, Call, judge, calls_from}
 use Rattle.histories.specs.Law.{taken, later_or, last_taken}
 use Rattle.histories.proofs.Judged.{refused_same}
@@ -16,15 +16,15 @@ go_on room (c ∷ calls) more s = let r = go_on room calls more (judge room s c)
 
 none_later : (o x : Option Call) → later_or o x ≡ None → (o ≡ None) × (x ≡ None)
 none_later None x e = (refl, e)
-none_later (Some c) x e = absurd (none_some c (sym e))
+none_later (Some c) x e = absurd (none-some c (sym e))
 
 not_taken : (b : Bool) (c : Call) → ◌≡◌ {A = Option Call} (cond b (Some c) None) None → b ≡ false
-not_taken true c e = absurd (none_some c (sym e))
+not_taken true c e = absurd (none-some c (sym e))
 not_taken false c e = refl
 
 was_taken : (b : Bool) (c k : Call) → cond b (Some c) None ≡ Some k → (b ≡ true) × (c ≡ k)
 was_taken true c k e = let h : c ≡ k = cc in (refl, h)
-was_taken false c k e = absurd (none_some k e)
+was_taken false c k e = absurd (none-some k e)
 
 module _ (room : Room) where
   pub none_taken : (calls : List Call) (s : State) → last_taken calls (calls_from room s calls).0 ≡ None → (calls_from room s calls).1 ≡ s
@@ -44,7 +44,7 @@ module _ (room : Room) where
     Led c end = (s : State) × Inv s × (end ≡ (judge room s c).1) × (taken (judge room s c).0 ≡ true)
 
     pub last_leads : (calls : List Call) (s : State) → Inv s → (c : Call) → last_taken calls (calls_from room s calls).0 ≡ Some c → Led c (calls_from room s calls).1
-    last_leads [] s inv c e = absurd (none_some c e)
+    last_leads [] s inv c e = absurd (none-some c e)
     last_leads (x ∷ calls) s inv c e =
         go (last_taken calls (calls_from room (judge room s x).1 calls).0) refl e
         (λ k q. last_leads calls (judge room s x).1 (keeps s x inv) k q)

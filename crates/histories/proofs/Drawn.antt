@@ -10,7 +10,7 @@ use Rattle.gates.specs.Records.{gate_in, record_of, Recorded}
 use Rattle.gates.proofs.FirstRecord.{recorded}
 use Rattle.boards.specs.Sheets.{Sheet, closing}
 use Rattle.solutions.specs.Claims.{Named}
-use Rattle.shelf.proofs.Lines.{none_some}
+use Rattle.std.proofs.lemmas.Option.{none-some}
 use Rattle.stages.specs.declared.Stage.{Stage}
 use Rattle.stages.specs.declared.Stage.TheVariants as stage
 use Rattle.histories.specs.Cases.{State, Room, new, Call, add, close, line, strike, pass, show, Outcome, judge, calls_from, replayed}
@@ -40,8 +40,8 @@ closed_is b e = go (leb 1 b.depth && leb b.depth 8) refl (ltb b.property (length
           deep = leb-true 1 b.depth deep.0;
           shallow = leb-true b.depth 8 deep.1;
         }
-    go true p false q h = absurd (none_some refusal.Wire (sym h))
-    go false p y q h = absurd (none_some refusal.Depth (sym h))
+    go true p false q h = absurd (none-some refusal.Wire (sym h))
+    go false p y q h = absurd (none-some refusal.Depth (sym h))
 
 -- ---- one call
 

@@ -15,7 +15,7 @@ use Rattle.solutions.proofs.Rounds.{rounds_end}
 use Rattle.solutions.proofs.Frames.{given_row, next_frame, Good, not_bad_at}
 use Rattle.induction.specs.Claims.{FirstBadAt}
 use Rattle.runs.specs.Faults.{Defined, Fault, Faultless}
-use Rattle.shelf.proofs.Lines.{none_some}
+use Rattle.std.proofs.lemmas.Option.{none-some}
 use Rattle.histories.specs.Shown.{frame_values, one_on, lowest_undefined, or_else, fault, by_fault, first_fault, first_bad}
 
 module _ (gs : List Gate) (named : Named gs) (rows : List (List Bool)) where
@@ -37,7 +37,7 @@ one_not_undefined e = let z : ◌≡◌ {A = ℕ} 0 1 = cc in omega arith
 
 one_on_none : (o : Option ℕ) → one_on o ≡ None → o ≡ None
 one_on_none None e = refl
-one_on_none (Some w) e = absurd (none_some (suc w) (sym e))
+one_on_none (Some w) e = absurd (none-some (suc w) (sym e))
 
 defined_next : (x : Value) (xs : List Value) (n : ℕ) → x ≢ Undefined → Defined n (reads single xs) → Defined (suc n) (reads single (x ∷ xs))
 defined_next x xs n h later zero l = h
@@ -45,7 +45,7 @@ defined_next x xs n h later (suc w) l = later w (omega arith)
 
 none_undefined : (xs : List Value) → lowest_undefined xs ≡ None → Defined (length xs) (reads single xs)
 none_undefined [] e = λ w l. absurd (omega arith)
-none_undefined (Undefined ∷ xs) e = absurd (none_some 0 (sym e))
+none_undefined (Undefined ∷ xs) e = absurd (none-some 0 (sym e))
 none_undefined (Zero ∷ xs) e = defined_next Zero xs (length xs) zero_not_undefined (none_undefined xs (one_on_none (lowest_undefined xs) e))
 none_undefined (One ∷ xs) e = defined_next One xs (length xs) one_not_undefined (none_undefined xs (one_on_none (lowest_undefined xs) e))
 
@@ -53,34 +53,34 @@ abbrev Lowest : List Value → ℕ → Type 0
 Lowest xs w = (w < length xs) × (reads single xs w ≡ Undefined) × Defined w (reads single xs)
 
 lowest_next : (x : Value) (xs : List Value) (w : ℕ) → x ≢ Undefined → (o : Option ℕ) → ((j : ℕ) → o ≡ Some j → Lowest xs j) → one_on o ≡ Some w → Lowest (x ∷ xs) w
-lowest_next x xs w h None later e = absurd (none_some w e)
+lowest_next x xs w h None later e = absurd (none-some w e)
 lowest_next x xs w h (Some k) later e =
     let same : suc k ≡ w = cc in
     let u = later k refl in
     subst (Lowest (x ∷ xs)) same (omega (arith, u.0), u.1, defined_next x xs k h u.2)
 
 some_undefined : (xs : List Value) (w : ℕ) → lowest_undefined xs ≡ Some w → Lowest xs w
-some_undefined [] w e = absurd (none_some w e)
+some_undefined [] w e = absurd (none-some w e)
 some_undefined (Undefined ∷ xs) w e = let same : 0 ≡ w = cc in subst (Lowest (Undefined ∷ xs)) same (omega arith, refl, λ j l. absurd (omega arith))
 some_undefined (Zero ∷ xs) w e = lowest_next Zero xs w zero_not_undefined (lowest_undefined xs) (λ j. some_undefined xs j) e
 some_undefined (One ∷ xs) w e = lowest_next One xs w one_not_undefined (lowest_undefined xs) (λ j. some_undefined xs j) e
 
 one_known : (x : Value) (p : ℕ) → ◌≡◌ {A = Option ℕ} (cond (is1 x) None (Some p)) None → x ≡ One
-one_known Undefined p e = absurd (none_some p (sym e))
-one_known Zero p e = absurd (none_some p (sym e))
+one_known Undefined p e = absurd (none-some p (sym e))
+one_known Zero p e = absurd (none-some p (sym e))
 one_known One p e = refl
 
 not_one : (x : Value) (p w : ℕ) → cond (is1 x) None (Some p) ≡ Some w → (w ≡ p) × (x ≢ One)
 not_one Undefined p w e = let h : p ≡ w = cc in (sym h, λ q. let z : ◌≡◌ {A = ℕ} 0 1 = cc q in omega arith)
 not_one Zero p w e = let h : p ≡ w = cc in (sym h, λ q. let z : ◌≡◌ {A = ℕ} 0 1 = cc q in omega arith)
-not_one One p w e = absurd (none_some w e)
+not_one One p w e = absurd (none-some w e)
 
 pub fault_none : (p : ℕ) (row : List Value) → fault p row ≡ None → Faultless (length row) p (reads single row)
 fault_none p row e = go (lowest_undefined row) refl e
   where
     go : (o : Option ℕ) → lowest_undefined row ≡ o → or_else o (cond (is1 (reads single row p)) None (Some p)) ≡ None → Faultless (length row) p (reads single row)
     go None q h = (none_undefined row q, one_known (reads single row p) p h)
-    go (Some w) q h = absurd (none_some w (sym h))
+    go (Some w) q h = absurd (none-some w (sym h))
 
 pub fault_some : (p : ℕ) (row : List Value) (w : ℕ) → fault p row ≡ Some w → Fault (length row) p (reads single row) w
 fault_some p row w e = go (lowest_undefined row) refl e

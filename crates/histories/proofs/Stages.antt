@@ -1,13 +1,13 @@
 -- Which stages take which events.
 use Rattle.std.proofs.Common.{◌≡◌, ℕ, ◌≢◌, ◌⊎◌, Some, None, Option, refl, inl, inr, arith}
-use Rattle.shelf.proofs.Lines.{none_some}
+use Rattle.std.proofs.lemmas.Option.{none-some}
 use Rattle.stages.specs.declared.Event.TheVariants.{Add, Close, Line, EmptyLine, Strike, Pass, Show}
 use Rattle.stages.specs.declared.Stage.{Stage}
 use Rattle.stages.specs.declared.Stage.TheVariants.{Draw, Base, BaseDone, Step, Safe, Shown}
 use Rattle.stages.specs.Stages.{after}
 
 never : {A : Type 0} (t : Stage) → ◌≡◌ {A = Option Stage} None (Some t) → A
-never t e = absurd (none_some t e)
+never t e = absurd (none-some t e)
 
 led : (t u : Stage) → ◌≡◌ {A = Option Stage} (Some t) (Some u) → u ≡ t
 led t u e = cc

@@ -1,6 +1,6 @@
 -- A valuation that satisfies the base formula shows a run that is bad within the depth.
 use Rattle.std.proofs.Common.{◌≡◌, ℕ, zero, suc, ◌<◌, ◌≤◌, Bool, true, false, ◌≢◌, List, [], ◌∷◌, ◌++◌, map, length, get_or, sym, ap, ◌∙◌, ap₂, inl, inr, ⊎_elim, arith, rules}
-use mathlib.Core.Bool.{false≢true}
+use mathlib.Core.Bool.{false≢true, or-false}
 use Rattle.std.proofs.lemmas.Bool.{cases_lt}
 use Rattle.values.specs.Sides.{rail0, rail1}
 use Rattle.values.specs.Single.{is1, from_rails, single}
@@ -19,7 +19,7 @@ use Rattle.solutions.proofs.Firsts.{find_first}
 use Rattle.solutions.proofs.Frames.{given_row, frame, frame_is, Good, bad_or_good, not_both, bad_same, first_bad}
 use Rattle.induction.specs.Readings.{Shows, ShowsBefore, seen, row_of, run_of}
 use Rattle.induction.specs.Claims.{passed, Obeyed, Obeys, BaseShows, HiddenNever}
-use Rattle.induction.proofs.Parts.{all_split, across_all, True, some_split, across_some, only, not_only, other_down}
+use Rattle.induction.proofs.Parts.{all_split, across_all, True, some_split, across_some, not_only, other_down}
 use Rattle.induction.proofs.Values.{bit_is1, passed_same, Read, read}
 use Rattle.induction.proofs.Encoding.{frame_encodes, frame_shown}
 use Rattle.induction.proofs.Solved.{least_defined}
@@ -118,7 +118,7 @@ module _ (gs : List Gate) (named : Named gs) (p : ℕ) (within : p < length gs) 
       (λ h.
       let r = across_some v d (λ i. across (length gs) (λ w. plus (base_mark (length gs) d i w) ∷ [])) h in
       let s = across_some v (length gs) (λ w. plus (base_mark (length gs) d r.0 w) ∷ []) r.2 in
-      (r.0, r.1, inl (s.0, s.1, marked r.0 r.1 s.0 s.1 (only (v (base_mark (length gs) d r.0 s.0)) s.2))))
+      (r.0, r.1, inl (s.0, s.1, marked r.0 r.1 s.0 s.1 (sym (or-false (v (base_mark (length gs) d r.0 s.0))) ∙ s.2))))
       (λ h.
       let r = across_some v d (λ i. minus (rail_var (length gs) i (rail1 p)) ∷ []) h in
       let down = not_only (v (rail_var (length gs) r.0 (rail1 p))) r.2 in

@@ -1,6 +1,6 @@
 -- Lists of clauses in parts: all of them, and some literal.
-use Rattle.std.proofs.Common.{◌≡◌, ℕ, zero, suc, ◌<◌, Bool, true, false, not, ◌||◌, ◌⊎◌, List, [], ◌∷◌, ◌++◌, sym, refl, ◌∙◌, subst, ⊎_elim, arith, rules, below_more}
-use mathlib.Core.Bool.{false≢true}
+use Rattle.std.proofs.Common.{◌≡◌, ℕ, zero, suc, ◌<◌, Bool, true, false, not, ◌||◌, ◌⊎◌, List, [], ◌∷◌, ◌++◌, sym, refl, ap, ◌∙◌, subst, ⊎_elim, arith, rules, below_more}
+use mathlib.Core.Bool.{false≢true, or_assoc}
 use Rattle.std.specs.List.{AllByRecursion as AllOf}
 use Rattle.std.proofs.lemmas.Bool.{or_cases, or_left, or_right, cases_lt}
 use Rattle.clauses.specs.Clauses.{Clause, Valuation, true_literal, some_true, across}
@@ -23,11 +23,7 @@ module _ (v : Valuation) where
 
   pub some_append : (c e : Clause) → some_true v (c ++ e) ≡ (some_true v c || some_true v e)
   some_append [] e = refl
-  some_append (l ∷ c) e = go (true_literal v l) (some_true v (c ++ e)) (some_true v c) (some_true v e) (some_append c e)
-    where
-      go : (a x y z : Bool) → x ≡ (y || z) → (a || x) ≡ ((a || y) || z)
-      go true x y z h = refl
-      go false x y z h = h
+  some_append (l ∷ c) e = ap (λ b. true_literal v l || b) (some_append c e) ∙ sym (or_assoc (true_literal v l) (some_true v c) (some_true v e))
 
   pub some_left : (c e : Clause) → True c → True (c ++ e)
   some_left c e h = some_append c e ∙ or_left (some_true v c) (some_true v e) h
@@ -50,9 +46,6 @@ module _ (v : Valuation) where
       ⊎_elim (λ k. let r = across_some n f k in (r.0, omega (arith, r.1), r.2)) (λ k. (n, omega arith, k)) (some_split (across n f) (f n) h)
 
 -- clauses of one and two literals
-pub only : (a : Bool) → (a || false) ≡ true → a ≡ true
-only = search rules
-
 pub not_only : (a : Bool) → (not a || false) ≡ true → a ≡ false
 not_only = search rules
 

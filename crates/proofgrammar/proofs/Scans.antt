@@ -3,6 +3,7 @@ use Rattle.std.proofs.Common.{◌≡◌, ℕ, ◌+◌, ◌-◌, ◌*◌, ◌<◌
 use Rattle.std.specs.Char.{is_ascii_digit}
 use Rattle.std.specs.Str.{all_ascii_digits}
 use Rattle.std.proofs.lemmas.List.{length-append, get_or_append_left}
+use Rattle.std.proofs.lemmas.Option.{some_pair_parts}
 use Rattle.std.proofs.lemmas.Bool.{le-leb, leb-true, cases_lt}
 use Rattle.std.proofs.lemmas.Str.Parse.{IsNumeralModel, numerals_by_fold}
 use Rattle.std.proofs.lemmas.Fmt.{digits_decimal, digits_value-decimal, decimal-digits_value, decimal_nonempty, decimal_digit, first_decimal}
@@ -86,16 +87,10 @@ none_from_scan bs e n s l h f =
     let none : ◌≡◌ {A = Option (ℕ × List ℕ)} None (Some (n, s)) = sym e ∙ ap (scan 0) f ∙ scan_text n s l h in
     grind arith
 
--- of a pair in Some
-pub same_pair : {X Y : Type 0} (x y : X) (s t : Y) → ◌≡◌ {A = Option (X × Y)} (Some (x, s)) (Some (y, t)) → (x ≡ y) × (s ≡ t)
-same_pair {X} {Y} x y s t e =
-    let pair : ◌≡◌ {A = X × Y} (x, s) (y, t) = cc in
-    (ap (λ p. p.0) pair, ap (λ p. p.1) pair)
-
 module _ (bs rest : List ℕ) (v : ℕ) (e : scan 0 bs ≡ Some (v, rest)) where
   -- the number whose text stands there is the one that was scanned
   scanned_same : (n : ℕ) (s : List ℕ) → n ≤ 2147483647 → Stops s → bs ≡ text_of n ++ s → (n ≡ v) × (s ≡ rest)
-  scanned_same n s l h f = same_pair n v s rest (sym (scan_text n s l h) ∙ ap (scan 0) (sym f) ∙ e)
+  scanned_same n s l h f = some_pair_parts n v s rest (sym (scan_text n s l h) ∙ ap (scan 0) (sym f) ∙ e)
 
   -- no digit
   pub none_from_empty : length bs ≤ length rest → (n : ℕ) (s : List ℕ) → n ≤ 2147483647 → Stops s → bs ≢ text_of n ++ s

@@ -1,19 +1,20 @@
 -- A list of words has one reading, and so has a number or a literal.
-use Rattle.std.proofs.Common.{◌≡◌, ℕ, suc, ◌<◌, ◌≤◌, Bool, true, false, ◌≢◌, List, [], ◌∷◌, ◌++◌, length, drop, ℤ, pos, negsuc, sym, refl, ap, ◌∙◌, arith}
+use Rattle.std.proofs.Common.{◌≡◌, ℕ, suc, ◌<◌, ◌≤◌, Bool, true, false, ◌≢◌, List, [], ◌∷◌, ◌++◌, length, drop, ℤ, pos, negsuc, sym, refl, ap, ◌∙◌, pos_of_ne-zero, arith}
 use Rattle.std.specs.Char.{is_ascii_digit}
 use Rattle.std.specs.Fmt.{signed_decimal}
 use Rattle.std.specs.List.{AllByRecursion as AllOf}
 use Rattle.std.proofs.lemmas.List.{append_assoc, append-nil}
+use Rattle.std.proofs.lemmas.Option.{some_pair_parts}
 use Rattle.decimals.specs.Decimals.{text_of}
 use Rattle.proofgrammar.specs.Grammar.{Number, Literal, words}
 use Rattle.proofgrammar.specs.Parts.{Stops, SmallNumber, SmallLiteral}
 use Rattle.proofgrammar.specs.Kinds.{One, Kind}
 use Rattle.std.specs.Str.{all_ascii_digits}
 use Rattle.std.proofs.lemmas.Fmt.{digits_decimal, decimal_nonempty, decimal_digit}
-use Rattle.proofgrammar.proofs.Scans.{own, same_pair, scan, scan_text, first_digit}
+use Rattle.proofgrammar.proofs.Scans.{own, scan, scan_text, first_digit}
 
 pub one_number : One text_of SmallNumber
-one_number m n s t l h p q e = same_pair m n s t (sym (scan_text m s l p) ∙ ap (scan 0) e ∙ scan_text n t h q)
+one_number m n s t l h p q e = some_pair_parts m n s t (sym (scan_text m s l p) ∙ ap (scan 0) e ∙ scan_text n t h q)
 
 -- a number's text begins with a digit
 digit_first : (n : ℕ) → n ≤ 2147483647 → (d : ℕ) × (ds : List ℕ) × (text_of n ≡ d ∷ ds) × (is_ascii_digit d ≡ true)
@@ -42,21 +43,18 @@ one_literal (negsuc m) (negsuc n) s t l h p q e =
     let value : m ≡ n = omega (arith, both.0) in
     (ap negsuc value, both.1)
 
-positive : (n : ℕ) → n ≢ 0 → 0 < n
-positive n h = omega arith
-
 pub numbers : Kind text_of SmallNumber Number 0
 numbers = record {
   one = one_number;
   small = λ n h. h.1;
-  good = λ n h e. (positive n e, h);
+  good = λ n h e. (pos_of_ne-zero e, h);
   nil_small = omega arith;
   nil_text = decimal_digit 0 (omega arith);
   nil_bad = λ n h e. omega (arith, h.0);
 }
 
 literal_good : (l : ℤ) → SmallLiteral l → l ≢ pos 0 → Literal l
-literal_good (pos n) s h = (positive n (λ e. h (ap pos e)), s)
+literal_good (pos n) s h = (pos_of_ne-zero (λ e. h (ap pos e)), s)
 literal_good (negsuc n) s h = (omega arith, s)
 
 not_zero : (l : ℤ) → Literal l → l ≢ pos 0

@@ -1,5 +1,5 @@
 -- What a line makes false, in words.
-use Rattle.std.proofs.Common.{◌≡◌, ℕ, zero, suc, Bool, true, false, ◌⊎◌, ◌↔◌, [], ◌∷◌, ℤ, pos, negsuc, neg_ℤ, Some, None, Option, sym, refl, ap, ◌∙◌, subst, inl, inr, arith}
+use Rattle.std.proofs.Common.{◌≡◌, ℕ, zero, suc, Bool, true, false, ◌⊎◌, ◌↔◌, [], ◌∷◌, ℤ, pos, negsuc, neg_ℤ, Some, None, Option, sym, refl, ap, ◌∙◌, subst, ⊎_elim, inl, inr, arith}
 use Rattle.std.specs.List.{AllByRecursion as AllOf}
 use Rattle.std.proofs.ByRecursion.{All-weaker}
 use Rattle.clauses.specs.Clauses.{Clause}
@@ -92,10 +92,6 @@ literal_in l [] literals i = absurd i
 literal_in l (k ∷ ks) literals (inl e) = subst Literal e literals.0
 literal_in l (k ∷ ks) literals (inr i) = literal_in l ks literals.1 i
 
-out : {A : Type 0} → A ⊎ ⊥ → A
-out (inl a) = a
-out (inr x) = absurd x
-
 nothing_false : (l : ℤ) → value unset l ≡ Some false → ⊥
 nothing_false (pos zero) f = cc
 nothing_false (pos (suc x)) f = cc
@@ -112,7 +108,7 @@ module _ (V : ℕ) (line : Clause) (within : AllOf (Within V) line) where
   line_said = said line literals unset (λ l. ⊥) (λ l q. (nothing_false l, λ x. absurd x))
 
   clash : (o : Option Marks) → Said (λ l. ⊥) line o → o ≡ None → Clash
-  clash None s e = (s.0, s.1, out s.2)
+  clash None s e = (s.0, s.1, ⊎_elim (λ a. a) absurd s.2)
   clash (Some m) s e = cc
 
   passes : (o : Option Marks) → Said (λ l. ⊥) line o → Clash → o ≡ None
@@ -126,7 +122,7 @@ module _ (V : ℕ) (line : Clause) (within : AllOf (Within V) line) where
   opened (Some k) s m e l w =
       let km : k ≡ m = cc in
       let are : FalseAre m (λ j. In j line ⊎ ⊥) = subst (λ n. FalseAre n (λ j. In j line ⊎ ⊥)) km s in
-      (λ f. out ((are l w.0).0 f), λ i. (are l w.0).1 (inl i))
+      (λ f. ⊎_elim (λ a. a) absurd ((are l w.0).0 f), λ i. (are l w.0).1 (inl i))
 
 pub line_in_words : LineInWords
 line_in_words V line within =

@@ -1,6 +1,7 @@
 -- What follows by hints holds wherever the clauses hold. Under a valuation that makes the line false every mark is the
 -- valuation's, so that no clause that holds is in conflict with the marks.
 use Rattle.std.proofs.Common.{◌≡◌, ℕ, zero, suc, Bool, true, false, cond, not, eqb, ◌⊎◌, List, [], ◌∷◌, ℤ, pos, negsuc, Some, None, Ok, Option, sym, refl, ap, ◌∙◌, inl, inr}
+use Rattle.std.proofs.Math.Bool.{not-not}
 use Rattle.std.specs.Map.{update}
 use Rattle.std.proofs.lemmas.Bool.{eqb-true, both_ways, or_cases, or_parts}
 use Rattle.clauses.specs.Clauses.{Clause, Valuation, true_literal, some_true}
@@ -22,18 +23,6 @@ flipped_some None b e = cc
 flipped_some (Some true) b e = let h : false ≡ b = cc in rw (← h)
 flipped_some (Some false) b e = let h : true ≡ b = cc in rw (← h)
 
-not_left : (a b : Bool) → a ≡ not b → not a ≡ b
-not_left true true e = sym e
-not_left true false e = refl
-not_left false true e = refl
-not_left false false e = sym e
-
-not_right : (a b : Bool) → not a ≡ b → a ≡ not b
-not_right true true e = sym e
-not_right true false e = refl
-not_right false true e = refl
-not_right false false e = sym e
-
 abbrev Agrees : Marks → Valuation → Type 0
 Agrees m v = (x : ℕ) (b : Bool) → m x ≡ Some b → v x ≡ b
 
@@ -41,7 +30,7 @@ module _ (v : Valuation) (m : Marks) (agrees : Agrees m v) where
   value_agrees : (l : ℤ) (b : Bool) → value m l ≡ Some b → true_literal v l ≡ b
   value_agrees (pos zero) b e = cc
   value_agrees (pos (suc x)) b e = agrees x b e
-  value_agrees (negsuc x) b e = not_left (v x) b (agrees x (not b) (flipped_some (m x) b e))
+  value_agrees (negsuc x) b e = ap not (agrees x (not b) (flipped_some (m x) b e)) ∙ not-not b
 
   update_agrees : (x : ℕ) (w : Bool) → v x ≡ w → Agrees (update eqb m x (Some w)) v
   update_agrees x w here y b e = go (eqb x y) refl e
@@ -53,7 +42,7 @@ module _ (v : Valuation) (m : Marks) (agrees : Agrees m v) where
   assign_agrees : (l : ℤ) (b : Bool) → true_literal v l ≡ b → Agrees (assign m l b) v
   assign_agrees (pos zero) b h = agrees
   assign_agrees (pos (suc x)) b h = update_agrees x b h
-  assign_agrees (negsuc x) b h = update_agrees x (not b) (not_right (v x) b h)
+  assign_agrees (negsuc x) b h = update_agrees x (not b) (sym (not-not (v x)) ∙ ap not h)
 
 -- A line that the valuation makes false has no literal with its negative, and its marks are the valuation's.
 abbrev Opened : Valuation → Option Marks → Type 0

@@ -1,16 +1,12 @@
 -- Rows of w elements each, one after the other.
-use Rattle.std.proofs.Common.{◌≡◌, ℕ, zero, suc, ◌+◌, ◌*◌, ◌%◌, ◌<◌, ◌≤◌, List, [], ◌∷◌, ◌++◌, map, length, sym, refl, ap, ◌∙◌, add-zero, mul-zero, suc-mul, zero-mul, arith}
+use Rattle.std.proofs.Common.{◌≡◌, ℕ, ◌*◌, ◌%◌, List, [], ◌∷◌, ◌++◌, map, length, sym, refl, ap, ◌∙◌, suc-mul, zero-mul, arith}
 use Rattle.std.specs.List.{flat_map, AllByRecursion as AllOf}
-use Rattle.std.proofs.lemmas.Nat.{mul-le, mod-mul-add}
+use Rattle.std.proofs.Math.Nat.{mul-mod_left}
 use Rattle.std.proofs.lemmas.List.{length-append, length-map, map-append}
 
 -- where a length is no multiple of the width, no rows have it
 pub no_multiple : (w size : ℕ) → (size % w ≡ 0 → ⊥) → (c : ℕ) → size ≡ c * w → ⊥
-no_multiple zero size odd c e = odd (ap (λ n. n % 0) (e ∙ mul-zero c))
-no_multiple (suc w) size odd c e = odd (ap (λ n. n % suc w) (e ∙ sym (add-zero (c * suc w))) ∙ mod-mul-add c (suc w) 0 (omega arith))
-
-pub row_fits : (k c w : ℕ) → k < c → k * w + w ≤ c * w
-row_fits k c w h = omega (arith, mul-le (suc k) w c w h (omega arith), suc-mul k w)
+no_multiple w size odd c e = odd (ap (λ n. n % w) e ∙ mul-mod_left c w)
 
 module _ {X Y : Type 0} (w : ℕ) (f : X → Y) where
   pub length_joined : (rows : List (List X)) → AllOf (λ row. length row ≡ w) rows → length (flat_map (map f) rows) ≡ length rows * w

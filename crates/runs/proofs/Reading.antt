@@ -1,6 +1,7 @@
 -- Bytes as rows of inputs.
-use Rattle.std.proofs.Common.{◌≡◌, ℕ, ◌+◌, ◌*◌, ◌<◌, ◌≤◌, Bool, false, List, [], ◌∷◌, ◌++◌, map, length, get_or, take, drop, sym, refl, ap, ◌∙◌, append_assoc, arith, suc, ◌⊎◌, ⊎_elim, subst, Ok, Err, Result, MatchResult, IfOk, IfErr}
-use Rattle.std.specs.List.{flat_map, AllByRecursion as AllOf}
+use Rattle.std.proofs.Common.{◌≡◌, ℕ, ◌+◌, ◌*◌, ◌<◌, ◌≤◌, Bool, false, List, [], ◌∷◌, ◌++◌, map, length, get_or, take, drop, sym, refl, ap, ◌∙◌, append_assoc, mul-le-mul_right, suc-mul, arith, suc, ◌⊎◌, ⊎_elim, subst, Ok, Err, Result, MatchResult, IfOk, IfErr}
+use Rattle.std.specs.List.{flat_map}
+use Rattle.std.proofs.ByRecursion.{All-push}
 use Rattle.std.proofs.lemmas.List.{take_at, take-map, drop_at, drop-map, append-nil, length-append, length-map, map-append, get_or-map, flat_map_more, nil_from_length}
 use Rattle.refusals.specs.declared.Failure.{Failure}
 use Rattle.refusals.specs.declared.Failure.TheVariants.{Refused, Memory}
@@ -10,7 +11,7 @@ use Rattle.gates.specs.declared.gate.Gate.{Gate}
 use Rattle.solutions.specs.Runs.{bit, input_count, Run}
 use Rattle.runs.specs.Rows.{byte, Rows}
 use Rattle.runs.specs.Inputs.{IsRead, IsUnread, NotRead, Bits, ValuesOf, RowsRead, Counts}
-use Rattle.runs.proofs.Cutting.{row_fits, length_joined, map_joined}
+use Rattle.runs.proofs.Cutting.{length_joined, map_joined}
 
 -- where each byte is read, they are bits, and the values are theirs
 pub values_read : (bytes : List ℕ) (values : List Value) → length values ≡ length bytes → ((k : ℕ) → k < length bytes → IsRead (get_or bytes k 0) (get_or values k Undefined))
@@ -71,10 +72,6 @@ pub record RowsSoFar (gs : List Gate) (bytes rest : List ℕ) (values : List (Li
   pub held : values ≡ map (map bit) rows
   pub count : length rows ≡ k
 
-all_more : {X : Type 0} (P : X → Type 0) (xs : List X) (x : X) → AllOf P xs → P x → AllOf P (xs ++ x ∷ [])
-all_more P [] x h p = (p, tt)
-all_more P (y ∷ ys) x h p = (h.0, all_more P ys x h.1 p)
-
 module _ (gs : List Gate) (bytes rest : List ℕ) (values : List (List Value)) (k : ℕ) (so_far : RowsSoFar gs bytes rest values k) where
   left : length rest + k * input_count gs ≡ length bytes
   left =
@@ -83,7 +80,7 @@ module _ (gs : List Gate) (bytes rest : List ℕ) (values : List (List Value)) (
 
   -- there are bytes for one more row
   pub row_left : (count : ℕ) → length bytes ≡ count * input_count gs → k < count → input_count gs ≤ length rest
-  row_left count size l = omega (arith, left, row_fits k count (input_count gs) l)
+  row_left count size l = omega (arith, left, mul-le-mul_right (input_count gs) l, suc-mul k (input_count gs))
 
   pub no_rows_part : (d : ℕ) (row more : List ℕ) → rest ≡ row ++ more → ((bits : List Bool) → Bits row bits → ⊥) → (rows : List (List Bool)) → Rows gs d bytes rows → ⊥
   no_rows_part d row more split never rows h =
@@ -95,7 +92,7 @@ module _ (gs : List Gate) (bytes rest : List ℕ) (values : List (List Value)) (
       let bits = h.0 in
       record {
         rows = so_far.rows ++ bits ∷ [];
-        run = all_more (λ r. length r ≡ input_count gs) so_far.rows bits so_far.run (sym (length-map bits byte) ∙ ap length h.1 ∙ size);
+        run = All-push (λ r. length r ≡ input_count gs) so_far.rows bits so_far.run (sym (length-map bits byte) ∙ ap length h.1 ∙ size);
         parts =
             ap (λ xs. xs ++ more) (sym (flat_map_more (map byte) [] so_far.rows bits)) ∙ append_assoc (flat_map (map byte) so_far.rows) (map byte bits) more
             ∙ ap (λ xs. flat_map (map byte) so_far.rows ++ (xs ++ more)) h.1 ∙ ap (λ xs. flat_map (map byte) so_far.rows ++ xs) (sym split) ∙ so_far.parts;

@@ -1,6 +1,6 @@
 -- One turn of a run: a row of inputs, the frame before, and what is told of the frame.
-use Rattle.std.proofs.Common.{◌≡◌, ℕ, zero, suc, ◌<◌, Bool, true, false, List, [], ◌∷◌, ◌++◌, map, length, get_or, Option, Ok, Err, Result, MatchResult, sym, refl, ap, ◌∙◌, subst, arith}
-use Rattle.std.specs.List.{AllByRecursion as AllOf}
+use Rattle.std.proofs.Common.{◌≡◌, ℕ, suc, ◌<◌, Bool, true, false, List, [], ◌∷◌, ◌++◌, map, length, get_or, Option, Ok, Err, Result, MatchResult, sym, refl, ap, ◌∙◌, subst, arith}
+use Rattle.std.proofs.ByRecursion.{All-get_or}
 use Rattle.std.proofs.lemmas.List.{get_or-map, length-map}
 use Rattle.refusals.specs.declared.Failure.{Failure}
 use Rattle.refusals.specs.declared.Failure.TheVariants.{Memory}
@@ -45,11 +45,6 @@ pub traced : (s : Sheet) (bytes : List ℕ) (rows : List (List Bool)) (r : Resul
 traced s bytes rows (Ok t) read found = (rows, read, found)
 traced s bytes rows (Err e) read is = subst (λ f. Traced s bytes (Err f)) (sym is) tt
 
-all_at : {X : Type 0} (P : X → Type 0) (xs : List X) (i : ℕ) (d : X) → AllOf P xs → i < length xs → P (get_or xs i d)
-all_at P [] i d h l = let none : ⊥ = omega arith in absurd none
-all_at P (x ∷ xs) zero d h l = h.0
-all_at P (x ∷ xs) (suc i) d h l = all_at P xs i d h.1 (omega arith)
-
 -- what was told of the frame as it was lent
 told_at : (T : ℕ → ℕ → (ℕ → Value) → Type 0) (n p q : ℕ) (told frame : List Value) → told ≡ frame → q ≡ p → length frame ≡ n → T (length told) q (reads single told) → T n p (reads single frame)
 told_at T n p q told frame e f g h =
@@ -64,7 +59,7 @@ module _ (gs : List Gate) (p : ℕ) (named : Named gs) (within : p < length gs) 
   row_bits = ap v x_is ∙ sym (get_or-map v rows k x [] l) ∙ ap (λ xs. get_or xs k []) holds.1 ∙ get_or-map (map bit) run k [] [] in_run
 
   pub row_long : length (v x) ≡ input_count gs
-  row_long = ap length row_bits ∙ length-map (get_or run k []) bit ∙ all_at (λ r. length r ≡ input_count gs) run k [] holds.0 in_run
+  row_long = ap length row_bits ∙ length-map (get_or run k []) bit ∙ All-get_or (λ r. length r ≡ input_count gs) run k [] in_run holds.0
 
   module _ (frames : List (List Value)) (reached : Reached gs p run frames k) (inputs : List Value) (lent : inputs ≡ v x) (before : Option (List Value)) (last : before ≡ last_of frames)
       (frame : List Value) (is : frame ≡ frame_row single gs (frame_given single gs inputs before)) (after : List (List Value)) (more : after ≡ frames ++ frame ∷ [])

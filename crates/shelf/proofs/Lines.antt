@@ -4,11 +4,9 @@ use mathlib.Core.Path.{fun_ext}
 use Rattle.std.specs.List.{AllByRecursion as AllOf}
 use Rattle.std.specs.Map.{update}
 use Rattle.std.proofs.lemmas.Bool.{eqb-true, eqb-false, ltb-true, ltb-false}
+use Rattle.std.proofs.lemmas.Option.{none-some}
 use Rattle.clauses.specs.Clauses.{Clause}
 use Rattle.shelf.specs.Lines.{Lines, Rising, Costs, find, insert, remove, total}
-
-pub none_some : {A : Type 0} (c : A) → ◌≡◌ {A = Option A} None (Some c) → ⊥
-none_some c e = cc
 
 -- two tests of which at most one holds
 pub swapped : {A : Type 0} (x y z : A) (a b : Bool) → (a ≡ true → b ≡ true → ⊥) → cond a x (cond b y z) ≡ cond b y (cond a x z)
@@ -35,7 +33,7 @@ find_insert n c (x ∷ xs) free k = here (eqb n x.0) refl free (λ f. find_inser
     here : (b : Bool) → eqb n x.0 ≡ b → cond b (Some x.1) (find xs n) ≡ None
         → (find xs n ≡ None → find (insert n c xs) k ≡ cond (eqb k n) (Some c) (find xs k))
         → find (insert n c (x ∷ xs)) k ≡ cond (eqb k n) (Some c) (find (x ∷ xs) k)
-    here true e f later = absurd (none_some x.1 (sym f))
+    here true e f later = absurd (none-some x.1 (sym f))
     here false e f later = next e (later f) (ltb n x.0)
 
 same_test : (n j k : ℕ) → eqb n j ≡ true → eqb k j ≡ eqb k n
@@ -96,7 +94,7 @@ rising_insert n c (x ∷ xs) free rising = go (ltb n x.0) refl (eqb n x.0) refl 
   where
     go : (b : Bool) → ltb n x.0 ≡ b → (t : Bool) → eqb n x.0 ≡ t → cond t (Some x.1) (find xs n) ≡ None
         → (find xs n ≡ None → Rising (insert n c xs)) → Rising (cond b ((n, c) ∷ x ∷ xs) (x ∷ insert n c xs))
-    go b e true q f later = absurd (none_some x.1 (sym f))
+    go b e true q f later = absurd (none-some x.1 (sym f))
     go true e false q f later = let less = ltb-true n x.0 e in ((less, all_above n x.0 xs (omega arith) rising.0), rising)
     go false e false q f later =
         let more = ltb-false n x.0 e in
@@ -134,7 +132,7 @@ remove_none n [] free = refl
 remove_none n (x ∷ xs) free = go (eqb n x.0) free (remove_none n xs)
   where
     go : (b : Bool) → cond b (Some x.1) (find xs n) ≡ None → (find xs n ≡ None → remove n xs ≡ xs) → cond b (remove n xs) (x ∷ remove n xs) ≡ x ∷ xs
-    go true f later = absurd (none_some x.1 (sym f))
+    go true f later = absurd (none-some x.1 (sym f))
     go false f later = ap (◌∷◌ x) (later f)
 
 -- ---- what the lines cost
@@ -151,7 +149,7 @@ total_insert cost n c (x ∷ xs) = go (ltb n x.0) (total_insert cost n c xs)
 -- a line that is struck frees its cost
 pub total_remove : (cost : Costs) (n : ℕ) (c : Clause) (xs : Lines) → Rising xs → find xs n ≡ Some c
     → unwrap_or (cost (length c)) 0 + total cost (remove n xs) ≡ total cost xs
-total_remove cost n c [] rising e = absurd (none_some c e)
+total_remove cost n c [] rising e = absurd (none-some c e)
 total_remove cost n c (x ∷ xs) rising e = go (eqb n x.0) refl e (total_remove cost n c xs rising.1)
   where
     go : (b : Bool) → eqb n x.0 ≡ b → cond b (Some x.1) (find xs n) ≡ Some c

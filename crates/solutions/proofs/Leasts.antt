@@ -1,6 +1,6 @@
 -- Least solutions: there is one only, it depends on the wires of the board alone, and a map that keeps the gates keeps it.
 use Rattle.std.proofs.Common.{◌≡◌, ℕ, zero, suc, ◌<◌, List, [], ◌∷◌, map, length, Some, None, Option, sym, refl, ap, ◌∙◌, subst, arith}
-use Rattle.std.specs.List.{AllByRecursion as AllOf}
+use Rattle.std.proofs.ByRecursion.{All-from_get_or}
 use Rattle.std.proofs.lemmas.List.{length-map, ext_get_or}
 use Rattle.values.specs.Kinds.{Kind, Lawful}
 use Rattle.gates.specs.declared.gate.Gate.{Gate}
@@ -39,10 +39,6 @@ module _ {A : Type 0} (K : Kind A) (gs : List Gate) where
     pub given_same : (inputs : List A) (f g : ℕ → A) → ((w : ℕ) → w < length gs → f w ≡ g w) → (w : ℕ) → w < length gs → given K gs inputs f w ≡ given K gs inputs g w
     given_same inputs f g same w l = supplied_same K (length gs) f g same (gate_at gs w) (wires_below gs named w l) (reads K inputs (rank is_input gs w))
 
-all_of : {X : Type 0} (P : X → Type 0) → ((x : X) → P x) → (xs : List X) → AllOf P xs
-all_of P h [] = tt
-all_of P h (x ∷ xs) = (h x, all_of P h xs)
-
 module _ {A B : Type 0} (K : Kind A) (J : Kind B) (h : A → B) (keeps : Keeps K J h) where
   pub reads_image : (xs : List A) (w : ℕ) → h (reads K xs w) ≡ reads J (map h xs) w
   reads_image [] w = keeps.undefined
@@ -53,7 +49,7 @@ module _ {A B : Type 0} (K : Kind A) (J : Kind B) (h : A → B) (keeps : Keeps K
   given_image gs inputs before w =
       let r = rank is_input gs w in
       supplied_related K J (λ a b. h a ≡ b) before (λ y. h (before y)) keeps.undefined (gate_at gs w)
-      (all_of (λ y. h (before y) ≡ h (before y)) (λ y. refl) (wires (gate_at gs w))) (reads K inputs r) (reads J (map h inputs) r) (reads_image inputs r)
+      (All-from_get_or (λ y. h (before y) ≡ h (before y)) (wires (gate_at gs w)) 0 (λ i l. refl)) (reads K inputs r) (reads J (map h inputs) r) (reads_image inputs r)
 
   module _ (gs : List Gate) (named : Named gs) (given : ℕ → A) where
     pub rounds_image : (k w : ℕ) → w < length gs → h (reads K (rounds K gs given k) w) ≡ reads J (rounds J gs (λ w. h (given w)) k) w

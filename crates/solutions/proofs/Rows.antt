@@ -1,6 +1,6 @@
 -- The test of two rows for equality, and the flag that a loop over a round keeps.
 use Rattle.std.proofs.Common.{◌≡◌, ℕ, zero, suc, ◌+◌, ◌<◌, Bool, true, false, not, ◌&&◌, ◌||◌, List, [], ◌∷◌, length, get_or, set, Decides, sym, refl, ap, ◌∙◌, ap₂, arith}
-use mathlib.Core.Bool.{false≢true}
+use mathlib.Core.Bool.{false≢true, and_assoc}
 use Rattle.std.proofs.lemmas.Bool.{and_parts, and_from}
 use Rattle.values.specs.Kinds.{Kind, Lawful}
 use Rattle.gates.specs.declared.gate.Gate.{Gate}
@@ -40,11 +40,7 @@ module _ {A : Type 0} (K : Kind A) (L : Lawful K) where
       go false true false e = refl
       go a false c e = absurd (false≢true e)
   same_row_set (x ∷ xs) (y ∷ ys) (suc w) v d l m h =
-      ap (λ b. K.same x y && b) (same_row_set xs ys w v d (omega arith) (omega arith) h) ∙ go (K.same x y) (same_row K xs ys) (K.same (get_or xs w d) v)
-    where
-      go : (a b c : Bool) → (a && (b && c)) ≡ ((a && b) && c)
-      go true b c = refl
-      go false b c = refl
+      ap (λ b. K.same x y && b) (same_row_set xs ys w v d (omega arith) (omega arith) h) ∙ sym (and_assoc (K.same x y) (same_row K xs ys) (K.same (get_or xs w d) v))
 
   module _ (gs : List Gate) (given : ℕ → A) (xs : List A) where
     -- one more wire of a round

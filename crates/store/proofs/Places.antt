@@ -5,7 +5,8 @@ use Rattle.std.proofs.ByRecursion.{All-get_or, All-weaker}
 use Rattle.std.proofs.lemmas.Bool.{eqb-true, eqb-false, ltb-true, ltb-false, lt-ltb, le-ltb, eq-eqb, ne_eqb, and_parts, and_from, both_ways, cond-true, cond-false}
 use Rattle.clauses.specs.Clauses.{Clause}
 use Rattle.shelf.specs.Lines.{Lines, Rising, find, insert, remove}
-use Rattle.shelf.proofs.Lines.{find_below, remove_none, none_some}
+use Rattle.std.proofs.lemmas.Option.{none-some}
+use Rattle.shelf.proofs.Lines.{find_below, remove_none}
 use Rattle.store.specs.Rows.{rises, place, stands, spot}
 
 -- ---- the test for rising numbers
@@ -131,14 +132,14 @@ found_stands n i xs r e = go (stands n (place n xs) xs) refl
     go : (b : Bool) → stands n (place n xs) xs ≡ b → stands n i xs ≡ true
     go true s = let same : ◌≡◌ {A = Option ℕ} (Some i) (Some (place n xs)) = sym e ∙ spot_some n (place n xs) xs r s in
         let here : i ≡ place n xs = cc in ap (λ k. stands n k xs) here ∙ s
-    go false s = absurd (none_some i (sym (spot_none n xs r s) ∙ e))
+    go false s = absurd (none-some i (sym (spot_none n xs r s) ∙ e))
 
 pub none_found : (n : ℕ) (xs : Lines) → spot n xs ≡ None → find xs n ≡ None
 none_found n xs e = go (find xs n) e
   where
     go : (o : Option Clause) → cond (is_some o) (Some (place n xs)) None ≡ None → o ≡ None
     go None e = refl
-    go (Some c) e = absurd (none_some (place n xs) (sym e))
+    go (Some c) e = absurd (none-some (place n xs) (sym e))
 
 -- ---- adding and removing there
 
@@ -149,7 +150,7 @@ insert_place n c (x ∷ xs) free = go (eqb n x.0) refl free (ltb x.0 n) refl (lt
     go : (t : Bool) → eqb n x.0 ≡ t → cond t (Some x.1) (find xs n) ≡ None → (b : Bool) → ltb x.0 n ≡ b → (a : Bool) → ltb n x.0 ≡ a
         → (find xs n ≡ None → insert n c xs ≡ inserted xs (place n xs) (n, c))
         → cond a ((n, c) ∷ x ∷ xs) (x ∷ insert n c xs) ≡ inserted (x ∷ xs) (cond b (1 + place n xs) 0) (n, c)
-    go true q f b e a g later = absurd (none_some x.1 (sym f))
+    go true q f b e a g later = absurd (none-some x.1 (sym f))
     go false q f true e true g later = absurd (omega (arith, ltb-true x.0 n e, ltb-true n x.0 g))
     go false q f true e false g later =
         let next : suc (place n xs) ≡ 1 + place n xs = omega arith in

@@ -1,5 +1,5 @@
 -- How many clauses a wire has, and which they are.
-use Rattle.std.proofs.Common.{◌≡◌, ℕ, zero, suc, ◌+◌, ◌-◌, ◌*◌, ◌<◌, ◌≤◌, Bool, true, false, List, ◌∷◌, ◌++◌, length, Option, sym, refl, ap, ◌∙◌, mul-le-mul, arith, length-append}
+use Rattle.std.proofs.Common.{◌≡◌, ℕ, zero, suc, ◌+◌, ◌-◌, ◌*◌, ◌<◌, ◌≤◌, Bool, true, false, List, ◌∷◌, ◌++◌, length, Option, sym, refl, ap, ◌∙◌, arith, length-append}
 use Rattle.std.specs.List.{slice_get}
 use Rattle.values.specs.Sides.{Rail, rail0, rail1, Right, fixed, one, either, both, two_boths}
 use Rattle.clauses.specs.Clauses.{Clause}
@@ -7,9 +7,6 @@ use Rattle.clauses.proofs.Blocks.{nth_left, nth_right}
 use Rattle.formulas.specs.Drives.{Drive, input, register, settled}
 use Rattle.formulas.specs.Formulas.{equation, driven, held, rail_var, apart}
 use Rattle.wireclauses.specs.Sizes.{right_size, plain_size, register_size, one_if}
-
-pub bounded : (n i m k : ℕ) → n ≤ m → i ≤ k → n * i ≤ m * k
-bounded n i m k a b = mul-le-mul a b
 
 pub right_length : (x : Rail ℕ → ℕ) (a : ℕ) (r : Right ℕ) → length (equation x a r) ≡ right_size r
 right_length x a (fixed t) = refl

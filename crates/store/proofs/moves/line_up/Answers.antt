@@ -30,14 +30,3 @@ loop-entry-preserved c =
       omega (arith, lengths_next es i d h),
       lined_next c.args.from es c.loop-entry.entry-items i c.loop-entry.start d h c.loop-entry.invariant.0 c.loop-entry.invariant.1,
     )
-
-pub returns : goal.returns
-returns c =
-    let ws = c.deref_mut.result.now in
-    let row = c.args.entries.now in
-    let long : row.len ≡ length row.items = search rules in
-    let part = lined_all c.args.from _ c.loop-entry.entry-items c.loop-entry.entry-index c.loop-entry-test.false c.loop-entry.invariant.1 in
-    record {
-      items = lined_behind row.items ws c.loop-entry.entry-items c.args.at c.args.from row.len c.deref_mut.ensures.value (omega arith) long part;
-      room = refl;
-    }
