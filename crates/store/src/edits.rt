@@ -5,7 +5,7 @@ ghost use Rattle.store.specs.Rows.{lengths, place, literals_in};
 ghost use Rattle.store.specs.Stores.{lines_of, line_room, literal_room, Roomy};
 
 use crate::entry::Entry;
-use crate::moves::{line_up, put_in};
+use crate::moves::{line_up, put_in, take_out};
 use crate::store::Store;
 use std::alloc::{AllocError, Global};
 
@@ -77,7 +77,7 @@ impl Store {
         ensures room { Roomy self.old self.new }
     {
         let entry = self.entries.remove(at);
-        drop(self.row.drain(entry.start..entry.start + entry.length));
+        take_out(&mut self.row, entry.start, entry.length);
         line_up(&mut self.entries, at, entry.start);
     }
 

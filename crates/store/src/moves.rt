@@ -15,6 +15,17 @@ pub(crate) fn put_in(row: &mut Vec<i32>, at: usize, literals: &[i32])
     row[at..].rotate_left(end - at);
 }
 
+/// Takes literals out of a row from a place on, and so moves those behind them back.
+pub(crate) fn take_out(row: &mut Vec<i32>, at: usize, count: usize)
+    requires { at + count ≤ vec_len row.old }
+    ensures items { row.new.items ≡ take at row.old.items ++ drop (at + count) row.old.items }
+    ensures room { vec_capacity row.new ≡ vec_capacity row.old }
+{
+    // A `drain` would turn around what it lets go: where nothing is behind it, nothing has to move.
+    row[at..].rotate_left(count);
+    row.truncate(row.len() - count);
+}
+
 /// Says of the entries from a place on that the first starts at a place of the row, and each other where the one before it ends.
 pub(crate) fn line_up(entries: &mut Vec<Entry>, at: usize, from: usize)
     requires { (at ≤ vec_len entries.old) × (from + lengths (drop at entries.old.items) < 2 ^ 64) }

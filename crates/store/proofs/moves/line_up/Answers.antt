@@ -1,9 +1,9 @@
-use Rattle.std.proofs.Common.{◌≡◌, ◌+◌, ◌-◌, ◌≤◌, length, get_or, take, drop, refl, ap, ◌∙◌, arith, rules}
+use Rattle.std.proofs.Common.{◌+◌, ◌-◌, ◌≤◌, length, get_or, take, drop, ap, ◌∙◌, arith, rules}
 use Rattle.std.proofs.lemmas.List.{take_rest}
 use Rattle.store.specs.declared.entry.Entry.{Entry}
 use Rattle.store.specs.Rows.{lengths}
 use Rattle.store.proofs.Cuts.{lengths_next, lengths_parts}
-use Rattle.store.proofs.Shifts.{lined_read, lined_next, lined_all, lined_behind}
+use Rattle.store.proofs.Shifts.{lined_read, lined_next}
 use Rattle.store.proofs.moves.line_up.Goals as goal
 
 pub overflow_add-start : goal.overflow_add-start

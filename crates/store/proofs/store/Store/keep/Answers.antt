@@ -1,9 +1,7 @@
-use Rattle.std.proofs.Common.{◌+◌, ltb, leb, length, sym, ap, ◌∙◌}
-use Rattle.std.proofs.lemmas.Bool.{and_parts, ltb-true, leb-true}
+use Rattle.std.proofs.Common.{ap, ◌∙◌}
 use Rattle.shelf.specs.Lines.{find}
 use Rattle.shelf.proofs.Lines.{map_insert}
-use Rattle.store.specs.Rows.{literals_in}
-use Rattle.store.specs.Stores.{lines_of, line_room, literal_room}
+use Rattle.store.specs.Stores.{lines_of}
 use Rattle.store.proofs.Seeking.{seat_none}
 use Rattle.store.proofs.store.Store.keep.Goals as goal
 

@@ -1,4 +1,4 @@
-use Rattle.std.proofs.Common.{◌≡◌, suc, ◌+◌, ◌^◌, ◌<◌, ◌≤◌, length, ap, ◌∙◌, arith, rules}
+use Rattle.std.proofs.Common.{◌≡◌, suc, ◌+◌, ◌^◌, ◌<◌, length, ap, ◌∙◌, arith, rules}
 use Rattle.store.specs.Rows.{lengths}
 use Rattle.store.proofs.Cuts.{length_cut, all_lengths, entry_ends, lengths_more, lengths_parts}
 use Rattle.store.proofs.Shifts.{lined_left, behind_left}
@@ -11,22 +11,13 @@ remove-entry-requires c =
     let some : s.entries.len ≡ length s.entries.items = search rules in
     omega (arith, c.requires, length_cut s.entries.items s.row.items)
 
-pub drain-requires-clause-in_bounds : goal.drain-requires-clause-in_bounds
-drain-requires-clause-in_bounds c =
+pub take_out-requires : goal.take_out-requires
+take_out-requires c =
     let s = c.args.self.now in
     let e = c.remove-entry.result in
     let long : s.row.len ≡ length s.row.items = search rules in
     let ends = entry_ends s.entries.items 0 (length s.row.items) c.args.at e s.tight (omega (arith, c.requires, length_cut s.entries.items s.row.items)) in
     omega (arith, ends.0, ap (λ x. x.start + x.length) c.remove-entry.ensures.value)
-
-pub overflow_add-entry : goal.overflow_add-entry
-overflow_add-entry c =
-    let s = c.args.self.now in
-    let e = c.remove-entry.result in
-    let long : s.row.len ≡ length s.row.items = search rules in
-    let ends = entry_ends s.entries.items 0 (length s.row.items) c.args.at e s.tight (omega (arith, c.requires, length_cut s.entries.items s.row.items)) in
-    let within : e.start + e.length ≤ s.row.len = omega (arith, ends.0, ap (λ x. x.start + x.length) c.remove-entry.ensures.value) in
-    search rules
 
 pub line_up-requires : goal.line_up-requires
 line_up-requires c =
@@ -58,8 +49,7 @@ returns-clause-lines c =
     let inside : at < length es = omega (arith, c.requires, length_cut es s.row.items) in
     let before : Sound es s.row.items = record { rising = s.rising; tight = s.tight } in
     let left = c.line_up.ensures.items ∙ lined_left es c.remove-entry.new.self.items at c.remove-entry.result.start c.remove-entry.ensures.items inside in
-    let row = c.drop.ensures.items ∙ c.drain.ensures.kept in
-    taken_lines es c.line_up.new.entries.items s.row.items c.drop.new.self.0.items at c.remove-entry.result before inside c.remove-entry.ensures.value left row
+    taken_lines es c.line_up.new.entries.items s.row.items c.take_out.new.row.items at c.remove-entry.result before inside c.remove-entry.ensures.value left c.take_out.ensures.items
 
 pub invariant_of-self : goal.invariant_of-self
 invariant_of-self c =
@@ -69,6 +59,5 @@ invariant_of-self c =
     let inside : at < length es = omega (arith, c.requires, length_cut es s.row.items) in
     let before : Sound es s.row.items = record { rising = s.rising; tight = s.tight } in
     let left = c.line_up.ensures.items ∙ lined_left es c.remove-entry.new.self.items at c.remove-entry.result.start c.remove-entry.ensures.items inside in
-    let row = c.drop.ensures.items ∙ c.drain.ensures.kept in
-    let after = taken_sound es c.line_up.new.entries.items s.row.items c.drop.new.self.0.items at c.remove-entry.result before inside c.remove-entry.ensures.value left row in
+    let after = taken_sound es c.line_up.new.entries.items s.row.items c.take_out.new.row.items at c.remove-entry.result before inside c.remove-entry.ensures.value left c.take_out.ensures.items in
     record { rising = after.rising; tight = after.tight }
