@@ -23,8 +23,10 @@ pub fn tell_frame(heap: Global, number: usize, values: &[Value]) -> Result<Strin
     ensures { IfOk result (λ t. string_bytes t ≡ frame_line number values.now) }
 {
     let mut line = format!(in heap; "frame {number}:")?;
+    // A wide board has many values: two characters are pushed sooner than they are formatted.
     for value in values {
-        write!(line, " {value}")?;
+        line.push(' ')?;
+        line.push(value.letter())?;
     }
     Ok(line)
 }
