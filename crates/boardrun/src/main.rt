@@ -7,8 +7,10 @@ use runs::text::{tell_board, tell_frame};
 use runs::tracing::trace;
 
 fn show(rt: &HostRuntime, trace: &Trace) -> anyhow::Result<()> {
-    for (index, frame) in trace.frames.iter().enumerate() {
-        rt.println(tell_frame(rt.alloc(), index + 1, frame.as_slice())?)?;
+    for index in 0..trace.frames.len() {
+        if let Some(frame) = trace.frames.row(index) {
+            rt.println(tell_frame(rt.alloc(), index + 1, frame)?)?;
+        }
     }
     rt.println(trace.verdict)?;
     Ok(())

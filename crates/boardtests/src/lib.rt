@@ -200,7 +200,8 @@ mod tests {
         let board = board_of(heap, &RING)?;
         let rows = read_rows(heap, &board, &[1, 0, 1, 1])?;
         assert_eq!(rt; rows.len(), 2);
-        assert!(rt; rows[0].as_slice() == [Value::One, Value::Zero].as_slice());
+        assert_eq!(rt; rows.row(0), Some([Value::One, Value::Zero].as_slice()));
+        assert_eq!(rt; rows.row(2), None);
         let found = trace(heap, &board, &[1, 0, 1, 1, 0, 0])?;
         assert_eq!(rt; found.frames.len(), 2);
         assert_eq!(rt; found.verdict, Verdict::Bad { frame: 2, wire: 3 });

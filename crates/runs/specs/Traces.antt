@@ -1,5 +1,5 @@
 -- A run's frames up to the first bad one, and what was found.
-use Rattle.std.specs.Prelude.{◌≡◌, ℕ, suc, ◌-◌, ◌<◌, Bool, List, [], map, length, slice_get, slice_index_or, Ok, Err, vec_items, Option, Result}
+use Rattle.std.specs.Prelude.{◌≡◌, ℕ, suc, ◌-◌, ◌<◌, Bool, List, [], length, slice_get, slice_index_or, Ok, Err, Option, Result}
 use Rattle.refusals.specs.declared.Failure.{Failure}
 use Rattle.refusals.specs.declared.Failure.TheVariants.{Refused, Memory}
 use Rattle.refusals.specs.declared.Refusal.TheVariants as refusal
@@ -13,6 +13,7 @@ use Rattle.runs.specs.declared.trace.Verdict.{Verdict}
 use Rattle.runs.specs.declared.trace.Verdict.TheVariants.{Bad, Good}
 use Rattle.runs.specs.declared.trace.Trace.{Trace}
 use Rattle.runs.specs.Rows.{Rows}
+use Rattle.runs.specs.Tables.{rows_of}
 use Rattle.runs.specs.Faults.{Fault}
 
 -- These are the first m frames of the run, each the values of all wires.
@@ -38,7 +39,7 @@ Judged gs p rows (Good frames) = (frames ≡ length rows) × ((j : ℕ) → BadA
 
 -- The trace has the run's frames up to the first bad one, and what was found.
 abbrev pub Found : Sheet → List (List Bool) → Trace → Type 0
-Found s rows t = HoldsFrames s.gates rows (map vec_items (vec_items t.frames)) (frames_of t.verdict) × Judged s.gates s.property rows t.verdict
+Found s rows t = HoldsFrames s.gates rows (rows_of t.frames) (frames_of t.verdict) × Judged s.gates s.property rows t.verdict
 
 -- What tracing a board over bytes answers: the trace of the run whose rows they are; refused where they are the rows of no run.
 abbrev pub Traced : Sheet → List ℕ → Result Trace Failure → Type 0

@@ -4,8 +4,10 @@
 
 pub mod fault;
 pub mod rows;
+pub mod table;
 pub mod text;
 pub mod trace;
 pub mod tracing;
 
+pub use table::Table;
 pub use trace::{Trace, Verdict};

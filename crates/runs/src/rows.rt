@@ -1,9 +1,12 @@
-ghost use Rattle.std.specs.Prelude.{◌≡◌, ℕ, ◌*◌, Bool, List, map, vec_items, MatchResult, ◌≢◌};
+ghost use Rattle.std.specs.Prelude.{◌≡◌, ℕ, ◌*◌, Bool, List, MatchResult, ◌≢◌};
 ghost use Rattle.refusals.specs.declared.Refusal.TheVariants.{Valuation};
 ghost use Rattle.boards.specs.Sheets.{sheet};
+ghost use Rattle.solutions.specs.Runs.{input_count};
 ghost use Rattle.runs.specs.Rows.{Rows};
+ghost use Rattle.runs.specs.Tables.{rows_of};
 ghost use Rattle.runs.specs.Inputs.{IsRead, IsUnread, NotRead, Bits, ValuesOf, RowsRead, Counts};
 
+use crate::table::Table;
 use boards::Board;
 use refusals::{Failure, Refusal};
 use std::alloc::Global;
@@ -22,12 +25,18 @@ fn read_value(byte: u8) -> Result<Value, Failure>
 }
 
 /// The values of bytes, each 0 or 1.
+// No `try_collect`: it makes room value by value, and a vector that grows holds its values twice for a while.
 fn read_values(heap: Global, bytes: &[u8]) -> Result<Vec<Value>, Failure>
     ensures { MatchResult result
         (λ v. ValuesOf bytes.now v.items)
         (λ e. NotRead ((bits : List Bool) → Bits bytes.now bits → ⊥) e) }
 {
-    bytes.iter().map(|byte| read_value(*byte)).try_collect(heap)
+    let mut values = Vec::with_capacity(heap, bytes.len())?;
+    for byte in bytes {
+        let value = read_value(*byte)?;
+        values.push(value)?;
+    }
+    Ok(values)
 }
 
 /// How many rows of `width` bytes a length is; of rows without bytes there are `depth`.
@@ -42,21 +51,17 @@ fn count_rows(width: usize, depth: usize, length: usize) -> Result<usize, Refusa
 
 /// Reads the rows of a run: a byte of 0 or 1 for each input of each frame. A board without inputs has no bytes, and
 /// runs as many frames as its depth.
-pub fn read_rows(heap: Global, board: &Board, bytes: &[u8]) -> Result<Vec<Vec<Value>>, Failure>
+pub fn read_rows(heap: Global, board: &Board, bytes: &[u8]) -> Result<Table, Failure>
     ensures { MatchResult result
-        (λ v. RowsRead (sheet board.now).gates (sheet board.now).depth bytes.now (map vec_items v.items))
+        (λ t. (t.width ≡ input_count (sheet board.now).gates) × RowsRead (sheet board.now).gates (sheet board.now).depth bytes.now (rows_of t))
         (λ e. NotRead ((rows : List (List Bool)) → Rows (sheet board.now).gates (sheet board.now).depth bytes.now rows → ⊥) e) }
 {
     let width = board.inputs();
     let count = count_rows(width, board.depth() as usize, bytes.len())?;
-    let mut rows = Vec::with_capacity(heap, count)?;
-    // By length and not by chunks: a board without inputs has rows of no bytes.
-    let mut rest = bytes;
-    for _ in 0..count {
-        let (row, more) = rest.split_at(width);
-        let values = read_values(heap, row)?;
-        rows.push(values)?;
-        rest = more;
-    }
-    Ok(rows)
+    let values = read_values(heap, bytes)?;
+    Ok(Table {
+        width,
+        count,
+        values,
+    })
 }

@@ -1,7 +1,7 @@
 ghost use Rattle.std.specs.Prelude.{Some};
 
+use crate::table::Table;
 use std::fmt;
-use values::Value;
 
 /// What was found of a run. Frames are counted from 1, wires from 0.
 // No `Result`: that a run is bad is an answer and no failure. With its number of frames, since it is printed without them.
@@ -30,6 +30,6 @@ impl fmt::Display for Verdict {
 /// The frames of a run up to the first bad one, each the values of all wires, and the verdict.
 #[derive(Drop)]
 pub struct Trace {
-    pub frames: Vec<Vec<Value>>,
+    pub frames: Table,
     pub verdict: Verdict,
 }

@@ -1,4 +1,4 @@
-ghost use Rattle.std.specs.Prelude.{◌≡◌, ◌≤◌, true, Bool, List, map, length, vec_items, MatchResult};
+ghost use Rattle.std.specs.Prelude.{◌≡◌, ◌*◌, ◌≤◌, true, Bool, List, length, MatchResult};
 ghost use Rattle.std.specs.Option.{option_map};
 ghost use Rattle.refusals.specs.declared.Failure.TheVariants.{Memory};
 ghost use Rattle.values.specs.Single.{single};
@@ -7,10 +7,12 @@ ghost use Rattle.solutions.specs.Rounds.{frame_row};
 ghost use Rattle.solutions.specs.Runs.{input_count};
 ghost use Rattle.frames.specs.Frames.{frame_given, long_before};
 ghost use Rattle.runs.specs.Inputs.{HoldsRows};
+ghost use Rattle.runs.specs.Tables.{cut, rows_of};
 ghost use Rattle.runs.specs.Traces.{last_of, Found, Traced};
 
 use crate::fault::find_fault;
 use crate::rows::read_rows;
+use crate::table::Table;
 use crate::trace::{Trace, Verdict};
 use boards::Board;
 use frames::find_frame;
@@ -18,11 +20,13 @@ use refusals::Failure;
 use std::alloc::Global;
 use values::Value;
 
-/// The last of the frames, if there is one.
-fn last_frame(frames: &[Vec<Value>]) -> Option<&[Value]>
-    ensures { option_map (λ x. x.now) result ≡ last_of (map vec_items frames.entry.now) }
+/// The last of so many frames, one after the other, if there is one.
+fn last_frame(values: &[Value], wires: usize, count: usize) -> Option<&[Value]>
+    requires { length values.now ≡ count * wires }
+    ensures { option_map (λ x. x.now) result ≡ last_of (cut wires count values.entry.now) }
 {
-    frames.last().map(|frame| frame.as_slice())
+    let last = count.checked_sub(1)?;
+    Some(&values[last * wires..])
 }
 
 /// The frame that follows the frame before, if there is one, under a row of inputs.
@@ -45,27 +49,38 @@ fn next_frame(
 }
 
 /// The frames of the rows up to the first bad one.
-fn run(heap: Global, board: &Board, rows: &[Vec<Value>]) -> Result<Trace, Failure>
+fn run(heap: Global, board: &Board, rows: &Table) -> Result<Trace, Failure>
     ghost bits: { List (List Bool) }
-    requires { HoldsRows (sheet board.now).gates (map vec_items rows.now) bits }
+    requires { HoldsRows (sheet board.now).gates (rows_of rows.now) bits }
     ensures { MatchResult result (λ t. Found (sheet board.now) bits t) (λ e. e ≡ Memory) }
 {
     let property = board.property() as usize;
-    let mut frames: Vec<Vec<Value>> = Vec::new(heap);
-    for inputs in rows {
-        let before = last_frame(frames.as_slice());
-        let frame = next_frame(heap, board, inputs.as_slice(), before)?;
-        let fault = find_fault(frame.as_slice(), property);
-        frames.push(frame)?;
-        if let Some(wire) = fault {
+    let wires = board.wires();
+    let count = rows.len();
+    let mut values = Vec::new(heap);
+    'frames: for index in 0..count {
+        let before = last_frame(values.as_slice(), wires, index);
+        let frame = next_frame(heap, board, rows.row_at(index), before)?;
+        values.extend_from_slice(frame.as_slice())?;
+        if let Some(wire) = find_fault(frame.as_slice(), property) {
+            let frames = Table {
+                width: wires,
+                count: index + 1,
+                values,
+            };
             let verdict = Verdict::Bad {
-                frame: frames.len(),
+                frame: index + 1,
                 wire,
             };
             return Ok(Trace { frames, verdict });
         }
     }
-    let verdict = Verdict::Good { frames: rows.len() };
+    let frames = Table {
+        width: wires,
+        count,
+        values,
+    };
+    let verdict = Verdict::Good { frames: count };
     Ok(Trace { frames, verdict })
 }
 
@@ -75,5 +90,5 @@ pub fn trace(heap: Global, board: &Board, bytes: &[u8]) -> Result<Trace, Failure
     ensures { Traced (sheet board.now) bytes.now result }
 {
     let rows = read_rows(heap, board, bytes)?;
-    run(heap, board, rows.as_slice())
+    run(heap, board, &rows)
 }
