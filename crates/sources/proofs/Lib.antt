@@ -1,7 +1,6 @@
 pub mod Ranks
 pub mod Searches
 pub mod LateFrames
-pub mod Upto
 pub mod Marks
 pub mod FrameBlocks
 pub mod Base

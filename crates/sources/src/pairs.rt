@@ -45,7 +45,8 @@ impl Outline {
     fn late_frame(self, q: usize) -> Option<usize>
         ensures { LateAt self.depth q result }
     {
-        (1..=self.depth).find(|late| q < pairs_before(*late + 1))
+        // Half open: a range with its last number tests one thing more for each, and this is asked for each literal.
+        (1..self.depth + 1).find(|late| q < pairs_before(*late + 1))
     }
 
     /// The q-th pair of frames, if there is one.
