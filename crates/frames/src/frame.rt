@@ -100,8 +100,10 @@ impl<V: ValueKind> Given<'_, V> {
         for (wire, gate) in self.board.gates().iter().enumerate() {
             // By index: a wire's value is read off the whole row, and written to one place of it.
             let value = wanted(*gate, self.supply(*gate, &mut inputs), row);
-            changed |= row[wire] != value;
+            // Compared after it is written: a kind may compare in parts, with branches, and the write does not wait for them.
+            let earlier = row[wire];
             row[wire] = value;
+            changed |= earlier != value;
         }
         changed
     }

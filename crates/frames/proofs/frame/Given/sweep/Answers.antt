@@ -34,7 +34,7 @@ loop-wire-preserved g c =
     let left = turn_left K gs s.inputs.now (frame_before K (before_of s)) w (iter_rest c.loop-wire.inputs) at _ gate (iter_rest c.supply.new.inputs) (omega arith) c.supply.ensures.left in
     let wants = c.wanted-value.ensures ∙ ap (λ y. wanted K y c.supply.result (reads K row)) gate in
     let turn = turn_value K L gs G xs w row is c.supply.result value given wants in
-    let differs = c.ne-changed.ensures ∙ ap (λ y. not (g.V.PartialEq.eq y value)) (sym c.index-row-wire.is) ∙ ap not (g.met.V.ValueKind.eq_agrees old value) in (
+    let differs = c.ne-changed.ensures ∙ ap not (g.met.V.ValueKind.eq_agrees old value) in (
       left,
       turn_row K L gs G xs w row is value turn,
       turn_changed K L gs G xs w row is value old c.loop-wire.changed c.ne-changed.result (omega arith) turn c.index-row-wire.is differs c.loop-wire.invariant.2,
