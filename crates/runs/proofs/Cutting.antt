@@ -2,7 +2,6 @@
 use Rattle.std.proofs.Common.{◌≡◌, ℕ, zero, suc, ◌+◌, ◌-◌, ◌*◌, ◌%◌, ◌<◌, ◌≤◌, List, [], ◌∷◌, ◌++◌, map, length, get_or, take, drop, slice_get, Some, sym, refl, ap, ◌∙◌, suc-mul, zero-mul, arith}
 use Rattle.std.specs.List.{flat_map, AllByRecursion as AllOf}
 use Rattle.std.proofs.Math.Nat.{mul-mod_left}
-use Rattle.std.proofs.lemmas.Nat.{mul-le}
 use Rattle.std.proofs.lemmas.List.{nil_from_length, length-take-le, length-drop, length-append, length-map, map-append, take-append-drop, take-append-le, take_all, take-map, drop-append-le, drop-map, drop-drop}
 use Rattle.std.proofs.lemmas.Option.{slice_get-get_or}
 use Rattle.runs.specs.Tables.{cut}
@@ -10,9 +9,6 @@ use Rattle.runs.specs.Tables.{cut}
 -- where a length is no multiple of the width, no rows have it
 pub no_multiple : (w size : ℕ) → (size % w ≡ 0 → ⊥) → (c : ℕ) → size ≡ c * w → ⊥
 no_multiple w size odd c e = odd (ap (λ n. n % w) e ∙ mul-mod_left c w)
-
-pub row_fits : (k c w : ℕ) → k < c → k * w + w ≤ c * w
-row_fits k c w h = omega (arith, mul-le (suc k) w c w h (omega arith), suc-mul k w)
 
 module _ {X : Type 0} (w : ℕ) where
   pub length_cut : (c : ℕ) (xs : List X) → length (cut w c xs) ≡ c
@@ -56,11 +52,11 @@ module _ {X : Type 0} (w : ℕ) where
       ∙ sym (slice_get-get_or (cut w c xs) j [] (omega (arith, all))) ∙ ap (slice_get (cut w c xs)) (sym last)
 
   module _ {Y : Type 0} (f : X → Y) where
-    pub cut-map : (c : ℕ) (xs : List X) → cut w c (map f xs) ≡ map (map f) (cut w c xs)
-    cut-map zero xs = refl
-    cut-map (suc c) xs =
+    pub cut_map : (c : ℕ) (xs : List X) → cut w c (map f xs) ≡ map (map f) (cut w c xs)
+    cut_map zero xs = refl
+    cut_map (suc c) xs =
         ap (λ ys. ys ∷ cut w c (drop w (map f xs))) (take-map f w xs) ∙ ap (λ ys. map f (take w xs) ∷ cut w c ys) (drop-map f w xs)
-        ∙ ap (λ ys. map f (take w xs) ∷ ys) (cut-map c (drop w xs))
+        ∙ ap (λ ys. map f (take w xs) ∷ ys) (cut_map c (drop w xs))
 
     pub joined_cut : (c : ℕ) (xs : List X) → length xs ≡ c * w → flat_map (map f) (cut w c xs) ≡ map f xs
     joined_cut zero xs e = sym (ap (map f) (nil_from_length xs (e ∙ zero-mul w)))

@@ -10,7 +10,7 @@ use Rattle.solutions.specs.Runs.{bit, input_count}
 use Rattle.runs.specs.Rows.{byte, Rows}
 use Rattle.runs.specs.Inputs.{IsRead, IsUnread, NotRead, Bits, ValuesOf, RowsRead, Counts}
 use Rattle.runs.specs.Tables.{cut}
-use Rattle.runs.proofs.Cutting.{length_cut, cut_rows, cut-map, joined_cut, length_joined, map_joined}
+use Rattle.runs.proofs.Cutting.{length_cut, cut_rows, cut_map, joined_cut, length_joined, map_joined}
 
 pub values_turn : (bytes : List ℕ) (i : ℕ) (values after : List Value) (v : Value) → i < length bytes → ValuesOf (take i bytes) values → IsRead (get_or bytes i 0) v
     → after ≡ values ++ v ∷ [] → ValuesOf (take (i + 1) bytes) after
@@ -54,7 +54,7 @@ module _ (gs : List Gate) (d : ℕ) (bytes : List ℕ) where
       let run = subst (λ w. AllOf (λ row. length row ≡ w) rows) e (cut_rows width count bits size) in (
         rows,
         (run, joined_cut width byte count bits size ∙ h.1, λ none. length_cut width count bits ∙ counts.1 (e ∙ none)),
-        (run, ap (cut width count) h.2 ∙ cut-map width bit count bits),
+        (run, ap (cut width count) h.2 ∙ cut_map width bit count bits),
       )
 
   pub no_rows_count : (width : ℕ) → width ≡ input_count gs → ((c : ℕ) → length bytes ≡ c * width → ⊥) → (rows : List (List Bool)) → Rows gs d bytes rows → ⊥

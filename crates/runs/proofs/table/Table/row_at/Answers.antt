@@ -1,9 +1,9 @@
-use Rattle.std.proofs.Common.{◌≡◌, ◌+◌, ◌-◌, ◌*◌, take, drop, vec_items, ap, ◌∙◌, sym, arith}
-use Rattle.runs.proofs.Cutting.{row_fits, cut_row}
+use Rattle.std.proofs.Common.{◌≡◌, ◌+◌, ◌-◌, ◌*◌, take, drop, vec_items, ap, ◌∙◌, sym, mul-le-mul_right, suc-mul, arith}
+use Rattle.runs.proofs.Cutting.{cut_row}
 use Rattle.runs.proofs.table.Table.row_at.Goals as goal
 
 pub slice_bounds-result-end : goal.slice_bounds-result-end
-slice_bounds-result-end c = omega (arith, row_fits c.args.index c.args.self.now.count c.args.self.now.width c.requires)
+slice_bounds-result-end c = omega (arith, mul-le-mul_right c.args.self.now.width c.requires, suc-mul c.args.index c.args.self.now.width)
 
 pub returns : goal.returns
 returns c =
